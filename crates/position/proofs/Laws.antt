@@ -1,0 +1,64 @@
+-- The laws of specs/Laws, proved. Assumes nothing.
+use Prim.Native.Nat.{ℕ, _+_, _-_, _<_}
+use native.Mathlib.Nat.{mod-eq-of-lt}
+use native.Mathlib.Omega.{arith}
+use lib.IntN.{ℤ, pos, _+ℤ_, _-ℤ_, +ℤ-comm, +ℤ-idr, -ℤ-+ℤ-cancel}
+use mathlib.Core.Path.{_≡_, sym, ap, _∙_}
+use Rattle.position.specs.declared.Profile.{Profile}
+use Rattle.position.specs.Position.{modℤ, directed, position, presetTo}
+use Rattle.position.specs.Profile.{ValidProfile}
+use Rattle.position.specs.Laws.{Agrees, Positions, Presets, Laws}
+use Rattle.position.proofs.Whole.{difference-below}
+use Rattle.position.proofs.Modulo.{mod-below, mod-multiple, mod-more}
+use Rattle.position.proofs.Direction.{directed-below, mirrors}
+
+only : (p : Profile) (r n : ℕ) → 0 < p .range → n < p .range → Agrees p r n → n ≡ position p r
+only p r n h l a =
+    sym (mod-eq-of-lt l)
+    ∙ ap (λ (z : ℤ). modℤ z (p .range)) (a .1)
+    ∙ mod-more (a .0) (pos (directed p r) +ℤ p .offset) (p .range) h
+
+plain : (p : Profile) (r : ℕ) → 0 < p .range → p .offset ≡ pos 0 → position p r ≡ directed p r
+plain p r h e =
+    ap (λ (z : ℤ). modℤ (pos (directed p r) +ℤ z) (p .range)) e
+    ∙ ap (λ (z : ℤ). modℤ z (p .range)) (+ℤ-idr (pos (directed p r)))
+    ∙ mod-eq-of-lt (directed-below p r h)
+
+positions : (p : Profile) (r : ℕ) → ValidProfile p → Positions p r
+positions p r v =
+    let h : 0 < p .range = omega arith in
+    record {
+      directed-below = directed-below p r h;
+      below = mod-below (pos (directed p r) +ℤ p .offset) (p .range) h;
+      agrees = mod-multiple (pos (directed p r) +ℤ p .offset) (p .range) h;
+      only = λ n l a. only p r n h l a;
+      plain = plain p r h;
+      by-count = λ q e. rw e;
+    }
+
+presets : (p : Profile) (r v : ℕ) → ValidProfile p → v < p .range → Presets p r v
+presets p r v f l =
+    let d = directed p r in
+    let exact : pos d +ℤ presetTo p r v .offset ≡ pos v =
+    +ℤ-comm (pos d) (pos v -ℤ pos d) ∙ -ℤ-+ℤ-cancel (pos v) (pos d) in
+    let within = difference-below v d (p .range) l (directed-below p r (omega arith)) in
+    record {
+      exact = exact;
+      within = within;
+      reads = rw exact (mod-eq-of-lt l);
+      valid = record {
+        bits-low = f .bits-low;
+        bits-high = f .bits-high;
+        low = f .low;
+        high = f .high;
+        full = f .full;
+        scaled = f .scaled;
+        preset = l;
+        step-low = f .step-low;
+        step-high = f .step-high;
+        offset = within;
+      };
+    }
+
+pub laws : Laws
+laws = record { positions = positions; mirrors = mirrors; presets = presets }

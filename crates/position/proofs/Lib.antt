@@ -1,0 +1,6 @@
+pub mod Whole
+pub mod Modulo
+pub mod Offset
+pub mod Direction
+pub mod Laws
+pub mod Worked

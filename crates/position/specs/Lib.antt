@@ -1,0 +1,4 @@
+pub mod Position
+pub mod Profile
+pub mod Laws
+pub mod Worked
