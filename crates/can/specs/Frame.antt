@@ -1,0 +1,28 @@
+-- Which frames are refused, and with what number: 01's table "Refusal numbers", rows 1 and 2.
+use Prim.Native.Nat.{ℕ}
+use mathlib.Core.Bool.{Bool, not, _&&_, _||_}
+use mathlib.Core.List.{[], _∷_}
+use lib.Dec.{ltb}
+use Rattle.cases.specs.Cases.{firstOf}
+use Rattle.can.specs.declared.Received.{Received}
+
+abbrev pub highest11 : ℕ
+highest11 = 0x7FF
+
+abbrev pub highest29 : ℕ
+highest29 = 0x1FFFFFFF
+
+abbrev pub mostBytes : ℕ
+mostBytes = 8
+
+-- an 11-bit identifier above 7FFh, or a 29-bit one above 1FFF FFFFh
+abbrev pub badIdentifier : Received → Bool
+badIdentifier f = (not (f .extended) && ltb highest11 (f .identifier)) || (f .extended && ltb highest29 (f .identifier))
+
+-- frame length above 8
+abbrev pub badLength : Received → Bool
+badLength f = ltb mostBytes (f .length)
+
+-- 1 comes first; 0 is no refusal
+abbrev pub refusalOf : Received → ℕ
+refusalOf f = firstOf ((badIdentifier f, 1) ∷ (badLength f, 2) ∷ []) 0
