@@ -1,0 +1,10 @@
+pub mod Loops
+pub mod After
+pub mod Room
+pub mod Holds
+pub mod Order
+pub mod Laws
+pub mod Due
+pub mod Slots
+pub mod Plain
+pub mod Worked

@@ -1,0 +1,45 @@
+-- What a call does to the line: a slot sends the first; then, of any call, the kinds `out` are withdrawn and the kinds `into` join.
+-- `after` says it of the line, `afterIn` of the places that hold it.
+use Prim.Native.Nat.{ℕ, zero, suc, _<_, _≤_}
+use mathlib.Core.Bool.{Bool, cond}
+use mathlib.Core.List.{List, [], _∷_}
+use lib.ListN.{drop}
+use Rattle.waiting.specs.Line.{join, withdraw}
+use Rattle.waiting.specs.Places.{joinIn, withdrawIn, takenIn}
+
+abbrev pub withdraws : List ℕ → List ℕ → List ℕ
+withdraws ws [] = ws
+withdraws ws (k ∷ ks) = withdraws (withdraw ws k) ks
+
+-- Several joining in one call join in the order given.
+abbrev pub joins : List ℕ → List ℕ → List ℕ
+joins ws [] = ws
+joins ws (k ∷ ks) = joins (join ws k) ks
+
+abbrev pub after : Bool → List ℕ → List ℕ → List ℕ → List ℕ
+after slot out into ws = joins (withdraws (cond slot (drop 1 ws) ws) out) into
+
+abbrev pub withdrawsIn : List ℕ → List ℕ → List ℕ
+withdrawsIn l [] = l
+withdrawsIn l (k ∷ ks) = withdrawsIn (withdrawIn l k) ks
+
+abbrev pub joinsIn : List ℕ → List ℕ → List ℕ
+joinsIn l [] = l
+joinsIn l (k ∷ ks) = joinsIn (joinIn l k) ks
+
+abbrev pub afterIn : Bool → List ℕ → List ℕ → List ℕ → List ℕ
+afterIn slot out into l = joinsIn (withdrawsIn (cond slot (takenIn l) l) out) into
+
+-- a kind where the test passes, and else none: `out` and `into` are made of these
+abbrev pub ifDue : Bool → ℕ → List ℕ
+ifDue due k = cond due (k ∷ []) []
+
+-- all kinds, from n down to 1: what a reset takes
+abbrev pub allKinds : ℕ → List ℕ
+allKinds zero = []
+allKinds (suc n) = suc n ∷ allKinds n
+
+-- the kinds of a list are kinds 1 to n
+pub data Named (n : ℕ) : List ℕ → Type 0 where
+  none : Named n []
+  more : {k : ℕ} {ks : List ℕ} → 0 < k → k ≤ n → Named n ks → Named n (k ∷ ks)

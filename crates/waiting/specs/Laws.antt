@@ -1,0 +1,50 @@
+-- What holds of the waiting line after every call, for any number n of kinds: `Laws`.
+-- There is room, the places hold the line, the order is kept, and it is known who waits.
+use Prim.Native.Nat.{ℕ, _<_, _≤_}
+use mathlib.Core.Path.{_≡_}
+use mathlib.Core.Bool.{Bool, true, false, not, _&&_, _||_, cond}
+use mathlib.Core.List.{List, [], _∷_, _++_}
+use lib.Dec.{eqb}
+use lib.ListN.{length, drop}
+use Rattle.waiting.specs.Line.{has, Kinds, join, withdraw, first}
+use Rattle.waiting.specs.Places.{pad, joinIn, withdrawIn, takenIn, waiting, Holds}
+use Rattle.waiting.specs.Calls.{after, afterIn, Named}
+
+-- some of a list, in its order
+pub data Among : List ℕ → List ℕ → Type 0 where
+  end : Among [] []
+  skip : {x : ℕ} {xs ys : List ℕ} → Among xs ys → Among xs (x ∷ ys)
+  keep : {x : ℕ} {xs ys : List ℕ} → Among xs ys → Among (x ∷ xs) (x ∷ ys)
+
+-- After a call stand those who stayed, in the order in which they waited, and behind them those who came, in the order in which they joined.
+pub record InOrder (slot : Bool) (out into ws : List ℕ) : Type 0 where
+  pub stayed : List ℕ
+  pub came : List ℕ
+  pub line : after slot out into ws ≡ stayed ++ came
+  pub waited : Among stayed ws
+  pub joined : Among came into
+  -- all stay but the one that is sent and those that are withdrawn
+  pub stays : (k : ℕ) → has k stayed ≡ (not (has k out) && has k (cond slot (drop 1 ws) ws))
+  -- one that waits already does not come
+  pub new : (k : ℕ) → has k came ≡ true → has k stayed ≡ false
+
+pub record Laws (n : ℕ) : Type 0 where
+  -- each waits at most once: a kind that does not wait finds room in n places
+  pub room : (k : ℕ) (ws : List ℕ) → Kinds n ws → 0 < k → k ≤ n → has k ws ≡ false → length ws < n
+  -- what the code does to the places, it does to the line that they hold
+  pub none : Holds n (pad n []) []
+  pub joins : {l ws : List ℕ} (k : ℕ) → 0 < k → k ≤ n → Holds n l ws → Holds n (joinIn l k) (join ws k)
+  pub withdraws : {l ws : List ℕ} (k : ℕ) → Holds n l ws → Holds n (withdrawIn l k) (withdraw ws k)
+  pub taken : {l ws : List ℕ} → Holds n l ws → Holds n (takenIn l) (drop 1 ws)
+  pub first-of : {l ws : List ℕ} → Holds n l ws → first l ≡ first ws
+  -- none is sent only where none waits
+  pub idle : {l ws : List ℕ} → Holds n l ws → first l ≡ 0 → ws ≡ []
+  pub waits : {l ws : List ℕ} (k : ℕ) → 0 < k → Holds n l ws → has k l ≡ has k ws
+  pub all : {l ws : List ℕ} → Holds n l ws → waiting l ≡ ws
+  -- a call leaves a proper line, in the places too
+  pub holds : {l ws : List ℕ} (slot : Bool) (out into : List ℕ) → Named n into → Holds n l ws → Holds n (afterIn slot out into l) (after slot out into ws)
+  -- the line is served in its order
+  pub in-order : (slot : Bool) (out into ws : List ℕ) → InOrder slot out into ws
+  -- a kind waits after a call exactly if it joined, or waited and was neither withdrawn nor sent
+  pub waits-after : (slot : Bool) (out into ws : List ℕ) (k : ℕ) → Kinds n ws
+      → has k (after slot out into ws) ≡ (has k into || (not (has k out) && (not (slot && eqb (first ws) k) && has k ws)))

@@ -1,0 +1,7 @@
+pub mod Line
+pub mod Places
+pub mod Calls
+pub mod Worked
+pub mod Laws
+pub mod Trace
+pub mod Plain
