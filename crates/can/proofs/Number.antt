@@ -1,15 +1,19 @@
 -- Numbers in bytes, by the width: `Numbers` of specs/Number.antt. Assumes nothing.
 use Prim.Native.Nat.{ℕ, zero, suc, _+_, _*_, _/_, _%_, _^_, _<_}
 use mathlib.Core.Path.{_≡_, refl, ap, _∙_}
-use mathlib.Core.List.{List, [], _∷_}
-use native.Mathlib.Nat.{mod-lt, mod-add-div, pow-suc, div-lt-iff-lt-mul, add-mul-mod-self-left, add-mul-div-left, mod-eq-of-lt, div-eq-of-lt, zero-add}
+use mathlib.Core.List.{List, [], _∷_, _++_}
+use native.Mathlib.Nat.{mod-lt, mod-add-div, pow-suc, div-lt-iff-lt-mul, add-mul-mod-self-left, add-mul-div-left, mod-eq-of-lt, div-eq-of-lt, zero-add, suc-add}
 use native.Mathlib.Omega.{arith}
-use lib.ListN.{length}
+use lib.ListN.{length, replicate}
 use Rattle.can.specs.Number.{lowFirst, number, AreBytes, Numbers}
+
+-- what is left of a number that fits, without its low byte
+high : (w v : ℕ) → v < 256 ^ suc w → v / 256 < 256 ^ w
+high w v h = div-lt-iff-lt-mul {k = 256} (omega arith) .1 (rw pow-suc at h)
 
 back : (w v : ℕ) → v < 256 ^ w → number (lowFirst w v) ≡ v
 back zero v h = omega arith
-back (suc w) v h = rw (back w (v / 256) (div-lt-iff-lt-mul (omega arith) .1 (rw pow-suc at h))) (mod-add-div v 256)
+back (suc w) v h = rw (back w (v / 256) (high w v h)) (mod-add-div v 256)
 
 again : (bs : List ℕ) → AreBytes bs → lowFirst (length bs) (number bs) ≡ bs
 again [] h = refl
@@ -26,5 +30,13 @@ bytes : (w v : ℕ) → AreBytes (lowFirst w v)
 bytes zero v = tt
 bytes (suc w) v = (mod-lt v (omega arith), bytes w (v / 256))
 
+zeros : (k : ℕ) → lowFirst k 0 ≡ replicate k 0
+zeros zero = refl
+zeros (suc k) = ap {B = List ℕ} (λ l. 0 ∷ l) (zeros k)
+
+unused : (w k v : ℕ) → v < 256 ^ w → lowFirst (w + k) v ≡ lowFirst w v ++ replicate k 0
+unused zero k v h = let z : v ≡ 0 = omega arith in rw (z, zero-add) (zeros k)
+unused (suc w) k v h = rw suc-add (ap {B = List ℕ} (λ l. v % 256 ∷ l) (unused w k (v / 256) (high w v h)))
+
 pub numbers : Numbers
-numbers = record { back = back; again = again; long = long; bytes = bytes }
+numbers = record { back = back; again = again; long = long; bytes = bytes; unused = unused }

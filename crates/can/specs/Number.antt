@@ -2,8 +2,8 @@
 -- `Numbers` says that nothing is lost on the way there or back, for any number of bytes.
 use Prim.Native.Nat.{ℕ, zero, suc, _+_, _*_, _/_, _%_, _^_, _<_}
 use mathlib.Core.Path.{_≡_}
-use mathlib.Core.List.{List, [], _∷_}
-use lib.ListN.{length}
+use mathlib.Core.List.{List, [], _∷_, _++_}
+use lib.ListN.{length, replicate}
 
 -- the bytes of a number, as many as the width says, low byte first
 abbrev pub lowFirst : ℕ → ℕ → List ℕ
@@ -27,3 +27,5 @@ pub record Numbers : Type 0 where
   pub again : (bs : List ℕ) → AreBytes bs → lowFirst (length bs) (number bs) ≡ bs
   pub long : (w v : ℕ) → length (lowFirst w v) ≡ w
   pub bytes : (w v : ℕ) → AreBytes (lowFirst w v)
+  -- bytes that a number does not need are 0
+  pub unused : (w k v : ℕ) → v < 256 ^ w → lowFirst (w + k) v ≡ lowFirst w v ++ replicate k 0

@@ -1,7 +1,9 @@
 -- Laws about a choice by a test. Assumes nothing.
 use mathlib.Core.Path.{_≡_, refl, sym, subst}
 use mathlib.Core.Bool.{Bool, true, false, not, _&&_, _||_, cond}
+use mathlib.Core.List.{List, [], _∷_}
 use lib.Dec.{T}
+use Rattle.cases.specs.Cases.{firstOf}
 
 pub true-false {ℓ} : {A : Type ℓ} → true ≡ false → A
 true-false e = absurd (subst T e tt)
@@ -32,3 +34,19 @@ both false b e = true-false (sym e)
 pub neither : (a b : Bool) → (a || b) ≡ false → (a ≡ false) × (b ≡ false)
 neither true b e = true-false e
 neither false b e = (refl, e)
+
+-- one of two passes
+pub either {ℓ} : {P : Type ℓ} (a b : Bool) → (a || b) ≡ true → (a ≡ true → P) → (b ≡ true → P) → P
+either true b e f g = f refl
+either false b e f g = g e
+
+infixr 5 _▸_
+-- what holds of each of a list
+pub data Each {A : Type 0} (P : A → Type 0) : List A → Type 0 where
+  end : Each P []
+  _▸_ : {a : A} {l : List A} → P a → Each P l → Each P (a ∷ l)
+
+-- what holds of each outcome holds of the first that applies
+pub first-each : {A : Type 0} (P : A → Type 0) (l : List (Bool × A)) (other : A) → Each (λ c. P (c .1)) l → P other → P (firstOf l other)
+first-each P [] other h g = g
+first-each P (c ∷ cs) other (x ▸ h) g = by P (c .0) (λ _. x) (λ _. first-each P cs other h g)
