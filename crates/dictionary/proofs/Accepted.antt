@@ -1,0 +1,52 @@
+-- The value's abort code comes before the state's, and a write that has neither is accepted and not barred. By the cases of the tests. Assumes nothing.
+use Prim.Native.Nat.{ℕ}
+use native.Mathlib.Omega.{arith}
+use mathlib.Core.Path.{_≡_, refl, _∙_}
+use mathlib.Core.Bool.{Bool, true, false, not, cond}
+use Rattle.dictionary.specs.declared.Device.{Device}
+use Rattle.dictionary.specs.declared.table.Row.{Row}
+use Rattle.dictionary.specs.Table.{keyOf}
+use Rattle.dictionary.specs.Accepted.{accepts, isSignature, valueRefusal, barred, refusal}
+
+-- the code of a value that is accepted or not, of a signature or not
+abbrev code : Bool → Bool → ℕ
+code a s = cond a 0 (cond s 0x08000020 0x06090030)
+
+-- the code of one that is barred or not
+abbrev state : Bool → ℕ
+state b = cond b 0x08000022 0
+
+refused : (a s b : Bool) → (code a s ≡ 0 → ⊥) → code a s ≡ cond (not a) (cond s 0x08000020 0x06090030) (state b)
+refused true s b h = absurd (h refl)
+refused false s b h = refl
+
+free : (a s b : Bool) → code a s ≡ 0 → state b ≡ cond (not a) (cond s 0x08000020 0x06090030) (state b)
+free true s b h = refl
+free false true b h = absurd (omega arith)
+free false false b h = absurd (omega arith)
+
+unrefused : (a s b : Bool) → cond (not a) (cond s 0x08000020 0x06090030) (state b) ≡ 0 → (a ≡ true) × (b ≡ false)
+unrefused true s true e = absurd (omega arith)
+unrefused true s false e = (refl, refl)
+unrefused false true b e = absurd (omega arith)
+unrefused false false b e = absurd (omega arith)
+
+module _ (d : Device) (r : Row) (v x : ℕ) (e : x ≡ valueRefusal (r .4) (d .node) (d .settings .profile .range) v) where
+  abbrev accepted : Bool
+  accepted = accepts (r .4) (d .node) (d .settings .profile .range) v
+
+  abbrev stops : Bool
+  stops = barred d (keyOf (r .0) (r .1)) v
+
+  pub value-first : (x ≡ 0 → ⊥) → x ≡ refusal d r v
+  unfolding refusal
+  value-first h = e ∙ refused accepted (isSignature (r .4)) stops (λ z. h (e ∙ z))
+
+  pub state-next : (b : Bool) → b ≡ barred d (keyOf (r .0) (r .1)) v → x ≡ 0 → state b ≡ refusal d r v
+  unfolding refusal
+  state-next b f h = rw f (free accepted (isSignature (r .4)) stops (rw (← e) h))
+
+pub taken : (d : Device) (r : Row) (v : ℕ) → refusal d r v ≡ 0
+    → (accepts (r .4) (d .node) (d .settings .profile .range) v ≡ true) × (barred d (keyOf (r .0) (r .1)) v ≡ false)
+unfolding refusal
+taken d r v e = unrefused (accepts (r .4) (d .node) (d .settings .profile .range) v) (isSignature (r .4)) (barred d (keyOf (r .0) (r .1)) v) e

@@ -1,0 +1,40 @@
+-- The laws of specs/Laws, collected; the order of the keys and the second index by computation. Assumes nothing.
+use Prim.Native.Nat.{ℕ}
+use mathlib.Core.Path.{_≡_, refl}
+use mathlib.Core.Bool.{Bool, true}
+use mathlib.Core.List.{map}
+use Rattle.dictionary.specs.declared.Device.{Device}
+use Rattle.dictionary.specs.declared.read.Shown.the-variants.{Number}
+use Rattle.dictionary.specs.Table.{entries, table, lookup, key}
+use Rattle.dictionary.specs.Reads.{shownAt}
+use Rattle.dictionary.specs.Writes.{written}
+use Rattle.dictionary.specs.Laws.{Shows, risesFrom, Laws}
+use Rattle.dictionary.proofs.Factory.{factory-valid}
+use Rattle.dictionary.proofs.Valid.{written-fits, written-valid}
+use Rattle.dictionary.proofs.Typed.{typed}
+use Rattle.dictionary.proofs.Found.{finds}
+
+rising : risesFrom 0 (map key table) ≡ true
+unfolding table entries
+rising = refl
+
+second-reads : (d : Device) (o : Bool) → let event = Number (d .settings .communication .pdo1 .event) in Shows d o 0x1800 5 event × Shows d o 0x6200 0 event
+unfolding table entries lookup shownAt
+second-reads d o = ((23, refl, refl), (38, refl, refl))
+
+second-writes : (d : Device) (v : ℕ) → written d 0x6200_00 v ≡ written d 0x1800_05 v
+unfolding written
+second-writes d v = refl
+
+pub laws : Laws
+laws =
+    record {
+      factory-valid = factory-valid;
+      written-valid = written-valid;
+      written-fits = written-fits;
+      typed = typed;
+      finds = finds;
+      rising = rising;
+      second-reads = second-reads;
+      second-writes = second-writes;
+    }

@@ -1,0 +1,32 @@
+-- What holds of each element of a list that passes a test, holds of the element at a place, where it passes. By induction on the list. Assumes nothing.
+use Prim.Native.Nat.{ℕ, zero, suc, _<_}
+use native.Mathlib.Omega.{arith}
+use mathlib.Core.Path.{_≡_, sym}
+use mathlib.Core.Bool.{Bool, true, false, cond}
+use mathlib.Core.List.{List, [], _∷_}
+use lib.ListN.{length, getD}
+use Rattle.cases.proofs.Cases.{true-false}
+
+-- those that pass a test
+abbrev pub those : {A : Type 0} → (A → Bool) → List A → List A
+those t [] = []
+those t (a ∷ l) = cond (t a) (a ∷ those t l) (those t l)
+
+infixr 5 _▸_
+pub data Each {A : Type 0} (P : A → Type 0) : List A → Type 0 where
+  end : Each P []
+  _▸_ : {a : A} {l : List A} → P a → Each P l → Each P (a ∷ l)
+
+module _ {A : Type 0} (P : A → Type 0) where
+  first : (t : Bool) (a : A) (l : List A) → t ≡ true → Each P (cond t (a ∷ l) l) → P a
+  first true a l e (x ▸ y) = x
+  first false a l e x = true-false (sym e)
+
+  rest : (t : Bool) (a : A) (l : List A) → Each P (cond t (a ∷ l) l) → Each P l
+  rest true a l (x ▸ y) = y
+  rest false a l x = x
+
+  pub at-each : (t : A → Bool) (l : List A) (d : A) (p : ℕ) → Each P (those t l) → p < length l → t (getD l p d) ≡ true → P (getD l p d)
+  at-each t [] d p x h e = absurd (omega arith)
+  at-each t (a ∷ l) d zero x h e = first (t a) a (those t l) e x
+  at-each t (a ∷ l) d (suc p) x h e = at-each t l d p (rest (t a) a (those t l) x) (omega arith) e

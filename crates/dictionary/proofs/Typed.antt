@@ -1,0 +1,107 @@
+-- Every entry fits its type: one fact for each entry of the table, in its order. Assumes nothing.
+use Prim.Native.Nat.{ℕ, _+_, _^_, _≤_, _<_}
+use native.Mathlib.Omega.{arith}
+use mathlib.Core.Path.{_≡_, refl}
+use mathlib.Core.Bool.{Bool, true, cond}
+use lib.Dec.{T, leb, ltb, lit<}
+use lib.IntN.{ℤ, pos, negsuc, natAbs}
+use lib.ListN.{length, getD, length-map}
+use borrow.Author.Tests.{leb-true}
+use Rattle.cases.proofs.Cases.{by, both, either}
+use Rattle.can.specs.Signed.{twos}
+use Rattle.position.specs.declared.Profile.{Profile}
+use Rattle.position.specs.Position.{position}
+use Rattle.position.specs.Profile.{ValidProfile}
+use Rattle.position.proofs.Laws.{laws}
+use Rattle.dictionary.specs.declared.Device.{Device}
+use Rattle.dictionary.specs.Table.{Entry, missing, entries, table, rowAt}
+use Rattle.dictionary.specs.Accepted.{within, transmissionType}
+use Rattle.dictionary.specs.Reads.{noEntry}
+use Rattle.dictionary.specs.Valid.{ValidDevice}
+use Rattle.dictionary.proofs.Columns.{row-of}
+use Rattle.dictionary.proofs.Those.{those, Each, _▸_, end, at-each}
+
+at-most : {n b c : ℕ} → n ≤ b → T (ltb b c) → n < c
+at-most {n} {b} {c} h t = omega (arith, lit< {m = b} {n = c} t)
+
+transmission-most : (v : ℕ) → transmissionType v ≡ true → v ≤ 255
+transmission-most v a =
+    either (within 1 240 v) (within 254 255 v) a
+    (λ e. omega (arith, leb-true v 240 (both (leb 1 v) (leb v 240) e .1)))
+    (λ e. leb-true v 255 (both (leb 254 v) (leb v 255) e .1))
+
+twos-below : (z : ℤ) → natAbs z < 0x100000000 → twos z < 0x100000000
+twos-below (pos n) h = h
+twos-below (negsuc n) h = omega arith
+
+module _ {p : Profile} (h : ValidProfile p) where
+  operating-below : p .operating < 0x10000
+  operating-below = omega arith
+
+  preset-below : p .preset < 0x100000000
+  preset-below = omega arith
+
+  position-below : (r : ℕ) → position p r < 0x100000000
+  position-below r = let b = laws .positions p r h .below in omega arith
+
+  status-below : (o : Bool) → p .operating + cond o 0x8000 0 < 0x10000
+  status-below o = by (λ n. p .operating + n < 0x10000) o (λ _. omega arith) (λ _. omega arith)
+
+  offset-below : twos (p .offset) < 0x100000000
+  offset-below = twos-below (p .offset) (omega arith)
+
+Typed : Entry → Type 0
+Typed e = (d : Device) (o : Bool) → ValidDevice d → e .number d o < 256 ^ (e .row .2)
+
+each : Each Typed (those (λ e. true) entries)
+unfolding Typed entries
+each =
+    (λ d o h. lit< tt)
+    ▸ (λ d o h. by (λ n. n < 256) (missing d) (λ _. lit< tt) (λ _. lit< tt))
+    ▸ (λ d o h. at-most (h .errors) tt)
+    ▸ (λ d o h. lit< tt)
+    ▸ (λ d o h. lit< tt)
+    ▸ (λ d o h. lit< tt)
+    ▸ (λ d o h. lit< tt)
+    ▸ (λ d o h. lit< tt)
+    ▸ (λ d o h. lit< tt)
+    ▸ (λ d o h. lit< tt)
+    ▸ (λ d o h. lit< tt)
+    ▸ (λ d o h. lit< tt)
+    ▸ (λ d o h. at-most (h .settings .communication .emergency-fits) tt)
+    ▸ (λ d o h. at-most (h .settings .communication .inhibit) tt)
+    ▸ (λ d o h. at-most (h .settings .communication .heartbeat) tt)
+    ▸ (λ d o h. lit< tt)
+    ▸ (λ d o h. at-most (h .identity .vendor) tt)
+    ▸ (λ d o h. at-most (h .identity .product) tt)
+    ▸ (λ d o h. at-most (h .identity .revision) tt)
+    ▸ (λ d o h. at-most (h .identity .serial) tt)
+    ▸ (λ d o h. lit< tt)
+    ▸ (λ d o h. at-most (h .settings .communication .pdo1 .identifier-fits) tt)
+    ▸ (λ d o h. at-most (transmission-most _ (h .settings .communication .pdo1 .transmission)) tt)
+    ▸ (λ d o h. at-most (h .settings .communication .pdo1 .event) tt)
+    ▸ (λ d o h. lit< tt)
+    ▸ (λ d o h. at-most (h .settings .communication .pdo2 .identifier-fits) tt)
+    ▸ (λ d o h. at-most (transmission-most _ (h .settings .communication .pdo2 .transmission)) tt)
+    ▸ (λ d o h. at-most (h .settings .communication .pdo2 .event) tt)
+    ▸ (λ d o h. lit< tt)
+    ▸ (λ d o h. lit< tt)
+    ▸ (λ d o h. lit< tt)
+    ▸ (λ d o h. lit< tt)
+    ▸ (λ d o h. operating-below (h .settings .profile))
+    ▸ (λ d o h. at-most (h .settings .profile .high) tt)
+    ▸ (λ d o h. preset-below (h .settings .profile))
+    ▸ (λ d o h. position-below (h .settings .profile) (d .reading .raw))
+    ▸ (λ d o h. lit< tt)
+    ▸ (λ d o h. at-most (h .settings .profile .step-high) tt)
+    ▸ (λ d o h. at-most (h .settings .communication .pdo1 .event) tt)
+    ▸ (λ d o h. status-below (h .settings .profile) o)
+    ▸ (λ d o h. lit< tt)
+    ▸ (λ d o h. by (λ n. n < 65536) (missing d) (λ _. lit< tt) (λ _. lit< tt))
+    ▸ (λ d o h. lit< tt)
+    ▸ (λ d o h. offset-below (h .settings .profile))
+    ▸ end
+
+pub typed : (d : Device) (o : Bool) (p : ℕ) → p < length table → ValidDevice d → getD entries p noEntry .number d o < 256 ^ (rowAt p .2)
+unfolding Typed table
+typed d o p s h = rw (row-of p) (at-each Typed (λ e. true) entries noEntry p each (rw length-map at s) refl d o h)

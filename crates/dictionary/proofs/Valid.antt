@@ -1,0 +1,177 @@
+-- An accepted write keeps a device valid: one fact for each rw row of the table, in its order. Assumes nothing.
+use Prim.Native.Nat.{ℕ, suc, _+_, _/_, _%_, _^_, _≤_, _<_}
+use native.Mathlib.Omega.{arith}
+use mathlib.Core.Path.{_≡_, sym, _∙_}
+use mathlib.Core.Bool.{true, false, not, _&&_, _||_}
+use lib.Dec.{eqb, leb}
+use borrow.Author.Tests.{ltb-true, leb-true, eqb-true, eq-eqb, not-false}
+use Rattle.cases.proofs.Cases.{true-false, by, both, neither}
+use Rattle.position.specs.declared.Profile.{Profile}
+use Rattle.position.specs.Position.{bit, scalingBit}
+use Rattle.position.specs.Profile.{fullRange, scaledRange, ValidProfile}
+use Rattle.position.proofs.Laws.{laws}
+use Rattle.dictionary.specs.declared.Pdo.{Pdo}
+use Rattle.dictionary.specs.declared.Communication.{Communication}
+use Rattle.dictionary.specs.declared.Settings.{Settings}
+use Rattle.dictionary.specs.declared.Device.{Device}
+use Rattle.dictionary.specs.declared.table.Row.{Row}
+use Rattle.dictionary.specs.Settings.{pdo}
+use Rattle.dictionary.specs.Table.{missing, entries, table, noRow, rowAt, key}
+use Rattle.dictionary.specs.Accepted.{within, pdoIdentifier, transmissionType, pdoBarred, accepts}
+use Rattle.dictionary.specs.Writes.{rangeFor, rescaledTo, written, Fits}
+use Rattle.dictionary.specs.Valid.{ValidPdo, ValidCommunication, ValidSettings, ValidDevice}
+use Rattle.dictionary.specs.Laws.{Takes}
+use Rattle.dictionary.proofs.Accepted.{taken}
+use Rattle.dictionary.proofs.Those.{those, Each, _▸_, end, at-each}
+use Rattle.dictionary.proofs.Factory.{factory-valid}
+
+-- a number of that length is one of its type
+up-to : {v b : ℕ} → v < suc b → v ≤ b
+up-to h = omega arith
+
+-- with one number of a PDO written
+module _ {p : Pdo} (v : ℕ) (h : ValidPdo p) where
+  identifier-is : pdoIdentifier v ≡ true → v < 256 ^ 4 → ValidPdo (pdo v (p .transmission) (p .event))
+  identifier-is a l = record { identifier = a; identifier-fits = up-to l; transmission = h .transmission; event = h .event }
+
+  transmission-is : transmissionType v ≡ true → ValidPdo (pdo (p .identifier) v (p .event))
+  transmission-is a = record { identifier = h .identifier; identifier-fits = h .identifier-fits; transmission = a; event = h .event }
+
+  event-is : v < 256 ^ 2 → ValidPdo (pdo (p .identifier) (p .transmission) v)
+  event-is l = record { identifier = h .identifier; identifier-fits = h .identifier-fits; transmission = h .transmission; event = up-to l }
+
+-- with some of the settings written
+abbrev settings : ℕ → ℕ → ℕ → Pdo → Pdo → Profile → Settings
+settings e i b p q f =
+    record { communication = record { emergency = e; inhibit = i; heartbeat = b; pdo1 = p; pdo2 = q }; profile = f }
+
+module _ {n : ℕ} {s : Settings} (h : ValidSettings n s) where
+  abbrev c : Communication
+  c = s .communication
+
+  k : ValidCommunication n c
+  k = h .communication
+
+  emergency-is : (v : ℕ) → eqb (v % 0x80000000) (0x80 + n) ≡ true → v < 256 ^ 4 → ValidSettings n (settings v (c .inhibit) (c .heartbeat) (c .pdo1) (c .pdo2) (s .profile))
+  emergency-is v a l =
+      record {
+        communication = record { emergency = a; emergency-fits = up-to l; inhibit = k .inhibit; heartbeat = k .heartbeat; pdo1 = k .pdo1; pdo2 = k .pdo2 };
+        profile = h .profile;
+      }
+
+  times-are : (i b : ℕ) → i ≤ 0xFFFF → b ≤ 0xFFFF → ValidSettings n (settings (c .emergency) i b (c .pdo1) (c .pdo2) (s .profile))
+  times-are i b l m =
+      record {
+        communication = record { emergency = k .emergency; emergency-fits = k .emergency-fits; inhibit = l; heartbeat = m; pdo1 = k .pdo1; pdo2 = k .pdo2 };
+        profile = h .profile;
+      }
+
+  pdos-are : {p q : Pdo} → ValidPdo p → ValidPdo q → ValidSettings n (settings (c .emergency) (c .inhibit) (c .heartbeat) p q (s .profile))
+  pdos-are l m =
+      record {
+        communication = record { emergency = k .emergency; emergency-fits = k .emergency-fits; inhibit = k .inhibit; heartbeat = k .heartbeat; pdo1 = l; pdo2 = m };
+        profile = h .profile;
+      }
+
+  profile-is : {f : Profile} → ValidProfile f → ValidSettings n (record { communication = c; profile = f })
+  profile-is l = record { communication = k; profile = l }
+
+-- with 6003h and the offset 0
+rescaled-is : (o t s : ℕ) → o % 4 ≡ 0 → o < 16 → 1000 ≤ t → t ≤ fullRange → (bit scalingBit o ≡ false → t ≡ fullRange) → (bit scalingBit o ≡ true → t ≤ scaledRange)
+    → 5000 ≤ s → s ≤ 1000000 → ValidProfile (rescaledTo o t s)
+rescaled-is o t s e b l m f g i j =
+    record { bits-low = e; bits-high = b; low = l; high = m; full = f; scaled = g; preset = omega arith; step-low = i; step-high = j; offset = omega arith }
+
+module _ {p : Profile} (v : ℕ) (h : ValidProfile p) where
+  operating-is : (eqb (v % 4) 0 && eqb (v / 16) 0) ≡ true → ValidProfile (rescaledTo v (rangeFor v) (p .step))
+  operating-is a =
+      let bits = both (eqb (v % 4) 0) (eqb (v / 16) 0) a in
+      let high = eqb-true (v / 16) 0 (bits .1) in
+      rescaled-is v (rangeFor v) (p .step) (eqb-true _ _ (bits .0)) (omega arith)
+      (by (λ t. 1000 ≤ t) (bit scalingBit v) (λ _. omega arith) (λ _. omega arith))
+      (by (λ t. t ≤ fullRange) (bit scalingBit v) (λ _. omega arith) (λ _. omega arith))
+      (λ e. rw e) (λ e. rw e (omega arith)) (h .step-low) (h .step-high)
+
+  range-is : within 1000 1000000 v ≡ true → not (bit scalingBit (p .operating)) ≡ false → ValidProfile (rescaledTo (p .operating) v (p .step))
+  range-is a s =
+      let bounds = both (leb 1000 v) (leb v 1000000) a in
+      let low = leb-true _ _ (bounds .0) in
+      let high = leb-true _ _ (bounds .1) in
+      let on = not-false _ s in
+      rescaled-is (p .operating) v (p .step) (h .bits-low) (h .bits-high) low (omega arith) (λ e. true-false (sym on ∙ e)) (λ _. high) (h .step-low) (h .step-high)
+
+  step-is : within 5000 1000000 v ≡ true → ValidProfile (rescaledTo (p .operating) (p .range) v)
+  step-is a =
+      let bounds = both (leb 5000 v) (leb v 1000000) a in
+      rescaled-is (p .operating) (p .range) v (h .bits-low) (h .bits-high) (h .low) (h .high) (h .full) (h .scaled) (leb-true _ _ (bounds .0)) (leb-true _ _ (bounds .1))
+
+-- what is known of v where the entry of a row takes it
+record Taken (d : Device) (r : Row) (v : ℕ) : Type 0 where
+  long : v < 256 ^ (r .2)
+  accepted : accepts (r .4) (d .node) (d .settings .profile .range) v ≡ true
+  -- 6002h or 6005h with scaling off
+  scaling : ((eqb (key r) 0x6002_00 || eqb (key r) 0x6005_01) && not (bit scalingBit (d .settings .profile .operating))) ≡ false
+
+Keeps : Row → Type 0
+Keeps r = (d : Device) (v : ℕ) → Taken d r v → ValidSettings (d .node) (d .settings) → ValidSettings (d .node) (written d (key r) v .settings)
+
+keeps : Each Keeps (those (λ r. r .3) table)
+unfolding Keeps table entries written
+keeps =
+    (λ d v t h. h)
+    ▸ (λ d v t h. h)
+    ▸ (λ d v t h. h)
+    ▸ (λ d v t h. emergency-is h v (t .accepted) (t .long))
+    ▸ (λ d v t h. times-are h v _ (up-to (t .long)) (h .communication .heartbeat))
+    ▸ (λ d v t h. times-are h _ v (h .communication .inhibit) (up-to (t .long)))
+    ▸ (λ d v t h. pdos-are h (identifier-is v (h .communication .pdo1) (t .accepted) (t .long)) (h .communication .pdo2))
+    ▸ (λ d v t h. pdos-are h (transmission-is v (h .communication .pdo1) (t .accepted)) (h .communication .pdo2))
+    ▸ (λ d v t h. pdos-are h (event-is v (h .communication .pdo1) (t .long)) (h .communication .pdo2))
+    ▸ (λ d v t h. pdos-are h (h .communication .pdo1) (identifier-is v (h .communication .pdo2) (t .accepted) (t .long)))
+    ▸ (λ d v t h. pdos-are h (h .communication .pdo1) (transmission-is v (h .communication .pdo2) (t .accepted)))
+    ▸ (λ d v t h. pdos-are h (h .communication .pdo1) (event-is v (h .communication .pdo2) (t .long)))
+    ▸ (λ d v t h. profile-is h (operating-is v (h .profile) (t .accepted)))
+    ▸ (λ d v t h. profile-is h (range-is v (h .profile) (t .accepted) (t .scaling)))
+    ▸ (λ d v t h. profile-is h (laws .presets (d .settings .profile) (d .reading .raw) v (h .profile) (ltb-true _ _ (t .accepted)) .valid))
+    ▸ (λ d v t h. profile-is h (step-is v (h .profile) (t .accepted)))
+    ▸ (λ d v t h. pdos-are h (event-is v (h .communication .pdo1) (t .long)) (h .communication .pdo2))
+    ▸ end
+
+-- 6003h is below 6002h
+Below : Row → Type 0
+Below r = (n t v : ℕ) → accepts (r .4) n t v ≡ true → v < t
+
+below : Each Below (those (λ r. eqb (key r) 0x6003_00) table)
+unfolding Below table entries
+below = (λ n t v a. ltb-true v t a) ▸ end
+
+module _ (d : Device) (p v : ℕ) (t : Takes d p v) where
+  known : Taken d (rowAt p) v
+  known =
+      let k = key (rowAt p) in
+      let scaling = (eqb k 0x6002_00 || eqb k 0x6005_01) && not (bit scalingBit (d .settings .profile .operating)) in
+      let preset = eqb k 0x6003_00 && missing d in
+      let pdo1 = pdoBarred 0x1800 (d .settings .communication .pdo1) k v in
+      let pdo2 = pdoBarred 0x1801 (d .settings .communication .pdo2) k v in
+      let u = taken d (rowAt p) v (t .unrefused) in
+      let free = neither (scaling || preset || pdo1) pdo2 (u .1) .0 in
+      record { long = t .long; accepted = u .0; scaling = neither scaling preset (neither (scaling || preset) pdo1 free .0) .0 }
+
+  pub written-fits : Fits (d .settings .profile) (key (rowAt p)) v
+  unfolding Below
+  written-fits e = at-each Below (λ r. eqb (key r) 0x6003_00) table noRow p below (t .stands) (eq-eqb _ _ e) (d .node) (d .settings .profile .range) v (known .accepted)
+
+  pub written-valid : ValidDevice d → ValidDevice (written d (key (rowAt p)) v)
+  unfolding Keeps written
+  written-valid h =
+      let k = key (rowAt p) in
+      record {
+        node-low = h .node-low;
+        node-high = h .node-high;
+        identity = h .identity;
+        raw = h .raw;
+        raw-missing = h .raw-missing;
+        errors = by (λ n. n ≤ 4) (eqb k 0x1003_00) (λ _. omega arith) (λ _. h .errors);
+        settings = at-each Keeps (λ r. r .3) table noRow p keeps (t .stands) (t .writable) d v known (h .settings);
+        saved = by (ValidSettings (d .node)) (eqb k 0x1010_01) (λ _. h .settings) (λ _. by (ValidSettings (d .node)) (eqb k 0x1011_01) (λ _. factory-valid (d .node) (h .node-low) (h .node-high)) (λ _. h .saved));
+      }

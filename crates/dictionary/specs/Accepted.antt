@@ -1,0 +1,86 @@
+-- 01's chapter "Entries", the column of accepted values, and the states in which an entry can be written: steps 5 and 6 of "First that applies".
+use Prim.Native.Nat.{ℕ, _+_, _/_, _%_}
+use lib.Dec.{eqb, leb, ltb}
+use mathlib.Core.Bool.{Bool, true, false, not, _&&_, _||_, cond}
+use mathlib.Core.List.{List, [], _∷_}
+use Rattle.cases.specs.Cases.{firstOf}
+use Rattle.position.specs.Position.{bit, scalingBit}
+use Rattle.dictionary.specs.declared.Pdo.{Pdo}
+use Rattle.dictionary.specs.declared.Device.{Device}
+use Rattle.dictionary.specs.declared.table.Row.{Row}
+use Rattle.dictionary.specs.declared.table.Accepted.{Accepted}
+use Rattle.dictionary.specs.declared.table.Accepted.the-variants.{Nothing, All, Only, Signature, Between, EmergencyIdentifier, PdoIdentifier, TransmissionType, OperatingParameters, BelowRange}
+use Rattle.dictionary.specs.Table.{missing, accepted, keyOf, key}
+
+abbrev pub within : ℕ → ℕ → ℕ → Bool
+within low high v = leb low v && leb v high
+
+-- switched on: bit 31 is 0
+abbrev pub on : ℕ → Bool
+on identifier = not (bit 31 identifier)
+
+-- bits 30..11 zero; with bit 31 clear also 181h..57Fh
+abbrev pub pdoIdentifier : ℕ → Bool
+pdoIdentifier v = eqb (v % 0x80000000 / 0x800) 0 && (not (on v) || within 0x181 0x57F v)
+
+-- 1..240, 254, 255
+abbrev pub transmissionType : ℕ → Bool
+transmissionType v = within 1 240 v || within 254 255 v
+
+-- What an entry accepts, of node n and range t.
+abbrev pub accepts : Accepted → ℕ → ℕ → ℕ → Bool
+accepts Nothing n t v = false
+accepts All n t v = true
+accepts (Only a) n t v = eqb v a
+accepts (Signature a) n t v = eqb v a
+accepts (Between a b) n t v = within a b v
+-- 80h+N; that, or that with bit 31
+accepts EmergencyIdentifier n t v = eqb (v % 0x80000000) (0x80 + n)
+accepts PdoIdentifier n t v = pdoIdentifier v
+accepts TransmissionType n t v = transmissionType v
+-- only bits 2 and 3 may be set
+accepts OperatingParameters n t v = eqb (v % 4) 0 && eqb (v / 16) 0
+-- below 6002h
+accepts BelowRange n t v = ltb v t
+
+-- 1010-1 and 1011-1
+abbrev pub isSignature : Accepted → Bool
+isSignature (Signature a) = true
+isSignature Nothing = false
+isSignature All = false
+isSignature (Only a) = false
+isSignature (Between a b) = false
+isSignature EmergencyIdentifier = false
+isSignature PdoIdentifier = false
+isSignature TransmissionType = false
+isSignature OperatingParameters = false
+isSignature BelowRange = false
+
+-- value: 0609 0030h; for 1010-1, 1011-1 a wrong signature 0800 0020h
+abbrev pub valueCode : Accepted → ℕ
+valueCode a = cond (isSignature a) 0x08000020 0x06090030
+
+abbrev pub valueRefusal : Accepted → ℕ → ℕ → ℕ → ℕ
+valueRefusal a n t v = cond (accepts a n t v) 0 (valueCode a)
+
+-- While a PDO is on, a write with bit 31 clear must repeat the held value, and sub 2 can't be written.
+abbrev pub pdoBarred : ℕ → Pdo → ℕ → ℕ → Bool
+pdoBarred index pdo k v =
+    let held = pdo .identifier in
+    eqb k (keyOf index 1) && on held && on v && not (eqb v held) || eqb k (keyOf index 2) && on held
+
+-- 6002h or 6005h with scaling off, 6003h while missing, a PDO that is on as above
+abbrev pub barred : Device → ℕ → ℕ → Bool
+barred d k v =
+    (eqb k 0x6002_00 || eqb k 0x6005_01) && not (bit scalingBit (d .settings .profile .operating))
+    || eqb k 0x6003_00 && missing d
+    || pdoBarred 0x1800 (d .settings .communication .pdo1) k v
+    || pdoBarred 0x1801 (d .settings .communication .pdo2) k v
+
+-- The abort code that is due to a write of v to the entry of a row, for its value and then for the state; 0 for none.
+unfoldable pub refusal : Device → Row → ℕ → ℕ
+refusal d r v =
+    firstOf (
+    (not (accepts (accepted r) (d .node) (d .settings .profile .range) v), valueCode (accepted r)) ∷
+    (barred d (key r) v, 0x08000022) ∷ [])
+    0

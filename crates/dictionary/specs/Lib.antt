@@ -1,0 +1,8 @@
+pub mod Settings
+pub mod Table
+pub mod Accepted
+pub mod Reads
+pub mod Writes
+pub mod Valid
+pub mod Laws
+pub mod Worked

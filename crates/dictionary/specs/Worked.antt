@@ -1,0 +1,189 @@
+-- 01's own numbers, worked out at node 1 with factory settings: what entries read, which writes are refused, and what writes do.
+-- 01, chapters "Worked numbers", "Entries", "Position" and "Service requests".
+use Prim.Native.Nat.{ℕ, _^_}
+use lib.Dec.{eqb, ltb}
+use mathlib.Core.Path.{_≡_}
+use mathlib.Core.Bool.{Bool, true, false, not, _&&_, cond}
+use mathlib.Core.List.{List, [], _∷_}
+use Rattle.dictionary.specs.declared.Device.{Device}
+use Rattle.dictionary.specs.declared.table.Row.{Row}
+use Rattle.dictionary.specs.declared.table.Found.the-variants.{At, NoSubIndex, NoIndex}
+use Rattle.dictionary.specs.declared.read.Shown.{Shown}
+use Rattle.dictionary.specs.declared.read.Shown.the-variants.{Blank, Number}
+use Rattle.dictionary.specs.Settings.{factory}
+use Rattle.dictionary.specs.Table.{table, rowAt, width, isRw, key, lookup}
+use Rattle.dictionary.specs.Accepted.{refusal}
+use Rattle.dictionary.specs.Writes.{written}
+use Rattle.dictionary.specs.Valid.{ValidDevice}
+use Rattle.dictionary.specs.Laws.{Shows}
+
+-- with that reading and count of errors
+abbrev pub device : Bool → ℕ → ℕ → Device
+device good raw errors =
+    record {
+      node = 1;
+      identity = record { vendor = 1; product = 2; revision = 3; serial = 4 };
+      reading = record { good = good; raw = raw };
+      errors = errors;
+      settings = factory 1;
+      saved = factory 1;
+    }
+
+-- as power-up leaves it: the reading missing
+abbrev pub fresh : Device
+fresh = device false 0 0
+
+-- at the raw position r
+abbrev pub at : ℕ → Device
+at r = device true r 0
+
+-- the same at another
+abbrev pub movedTo : ℕ → Device → Device
+movedTo r d =
+    record {
+      node = d .node;
+      identity = d .identity;
+      reading = record { good = true; raw = r };
+      errors = d .errors;
+      settings = d .settings;
+      saved = d .saved;
+    }
+
+-- after writes, each of a key and a value
+abbrev pub after : Device → List (ℕ × ℕ) → Device
+after d [] = d
+after d (w ∷ ws) = after (written d (w .0) (w .1)) ws
+
+-- Pre-operational, the entry i-j reads s.
+abbrev pub Reads : Device → ℕ → ℕ → Shown → Type 0
+Reads d i j s = Shows d false i j s
+
+-- A write of v to the entry i-j is refused with this abort code; 0: it is accepted.
+abbrev pub Answers : Device → ℕ → ℕ → ℕ → ℕ → Type 0
+Answers d i j v code = (p : ℕ) × (lookup i j ≡ At p) × (refusal d (rowAt p) v ≡ code)
+
+abbrev pub invalidValue : ℕ
+invalidValue = 0x06090030
+
+abbrev pub wrongSignature : ℕ
+wrongSignature = 0x08000020
+
+abbrev pub deviceState : ℕ
+deviceState = 0x08000022
+
+-- "save" and "load"
+abbrev pub save : ℕ
+save = 0x65766173
+
+abbrev pub load : ℕ
+load = 0x64616F6C
+
+-- TPDO1 switched off
+abbrev pub off : Device
+off = written fresh 0x1800_01 0x80000181
+
+-- both PDOs off, scaling on
+abbrev pub ready : Device
+ready = after (at 100) ((0x1800_01, 0x80000181) ∷ (0x1801_01, 0x80000281) ∷ (0x6000_00, 4) ∷ [])
+
+-- scaling on, 6005h = 10,000
+abbrev pub coarse : ℕ → Device
+coarse r = after (at r) ((0x6000_00, 4) ∷ (0x6005_01, 10000) ∷ [])
+
+-- r = 100, preset 40
+abbrev pub preset : Device
+preset = written (at 100) 0x6003_00 40
+
+-- The rw entries among these rows are, in their order, those of the writes, and each takes the value.
+abbrev pub takeAll : Device → List Row → List (ℕ × ℕ) → Bool
+takeAll d [] [] = true
+takeAll d [] (w ∷ ws) = false
+takeAll d (r ∷ rs) [] = not (isRw r) && takeAll d rs []
+takeAll d (r ∷ rs) (w ∷ ws) =
+    cond (isRw r)
+    (eqb (key r) (w .0) && ltb (w .1) (256 ^ width r) && eqb (refusal d r (w .1)) 0 && takeAll d rs ws)
+    (takeAll d rs (w ∷ ws))
+
+abbrev pub writes : List (ℕ × ℕ)
+writes =
+    (0x1003_00, 0) ∷
+    (0x1010_01, save) ∷
+    (0x1011_01, load) ∷
+    (0x1014_00, 0x80000081) ∷
+    (0x1015_00, 10) ∷
+    (0x1017_00, 1000) ∷
+    (0x1800_01, 0x181) ∷
+    (0x1800_02, 240) ∷
+    (0x1800_05, 7) ∷
+    (0x1801_01, 0x57F) ∷
+    (0x1801_02, 255) ∷
+    (0x1801_05, 65535) ∷
+    (0x6000_00, 12) ∷
+    (0x6002_00, 1000) ∷
+    (0x6003_00, 999999) ∷
+    (0x6005_01, 10000) ∷
+    (0x6200_00, 8) ∷
+    []
+
+pub record Worked : Type 0 where
+  -- 0008 0196h (profile 406, absolute linear)
+  pub type : Reads fresh 0x1000 0 (Number 0x00080196)
+  pub p1 : Reads fresh 0x6501 0 (Number 5000)
+  pub p2 : Answers fresh 0x6200 0 100 0
+  pub p5 : Answers fresh 0x6000 0 1 invalidValue
+  -- 6004h while missing
+  pub p6 : Reads fresh 0x6004 0 Blank
+  -- r = 69,637
+  pub p7 : Reads (at 69637) 0x6004 0 (Number 69637)
+  -- inverted, r = 0, scaling off
+  pub p8 : Reads (written (at 0) 0x6000_00 8) 0x6004 0 (Number 1048575)
+  -- scaling on, 6005h = 10,000: r = 6 and 7 both give 3
+  pub p9 : Reads (coarse 6) 0x6004 0 (Number 3) × Reads (coarse 7) 0x6004 0 (Number 3)
+  -- r = 100, preset 40: 6509h is −60, `C4 FF FF FF`; then r = 50 reads 1,048,566
+  pub p10 : Reads preset 0x6509 0 (Number 0xFFFFFFC4) × Reads (movedTo 50 preset) 0x6004 0 (Number 1048566)
+  -- read 1801-3
+  pub p11 : lookup 0x1801 3 ≡ NoSubIndex
+  -- 6002h: 999 gives 0609 0030h; 1,000 with scaling off 0800 0022h
+  pub p12 : Answers fresh 0x6002 0 999 invalidValue × Answers fresh 0x6002 0 1000 deviceState
+  -- the index of P4
+  pub no-index : lookup 0x2102 0 ≡ NoIndex
+  -- value before state: 6003h is below 6002h, and not written while missing
+  pub value-first : Answers fresh 0x6003 0 1048576 invalidValue × Answers fresh 0x6003 0 40 deviceState × Answers (at 100) 0x6003 0 1048575 0
+  -- 6005h with scaling off
+  pub step : Answers (at 100) 0x6005 1 5000 deviceState × Answers ready 0x6005 1 5000 0 × Answers ready 0x6005 1 4999 invalidValue
+  -- only bits 2 and 3 may be set
+  pub operating : Answers fresh 0x6000 0 12 0 × Answers fresh 0x6000 0 16 invalidValue
+  -- with bit 31 clear also 181h..57Fh
+  pub band : Answers off 0x1800 1 0x180 invalidValue × Answers off 0x1800 1 0x181 0 × Answers off 0x1800 1 0x57F 0 × Answers off 0x1800 1 0x580 invalidValue
+  -- bits 30..11 zero
+  pub high-bits : Answers off 0x1800 1 0x80000000 0 × Answers off 0x1800 1 0x80000800 invalidValue × Answers off 0x1800 1 0xC0000181 invalidValue
+  -- while a PDO is on, a write with bit 31 clear must repeat the held value
+  pub held : Answers fresh 0x1800 1 0x181 0 × Answers fresh 0x1800 1 0x57F deviceState × Answers fresh 0x1800 1 0x80000181 0
+  -- and sub 2 can't be written
+  pub held-type : Answers fresh 0x1800 2 255 deviceState × Answers off 0x1800 2 255 0
+  -- 1..240, 254, 255
+  pub types : Answers off 0x1800 2 0 invalidValue × Answers off 0x1800 2 240 0 × Answers off 0x1800 2 241 invalidValue × Answers off 0x1800 2 254 0
+  -- 80h+N; that, or that with bit 31
+  pub emergency : Answers fresh 0x1014 0 0x81 0 × Answers fresh 0x1014 0 0x80000081 0 × Answers fresh 0x1014 0 0x82 invalidValue
+  -- a wrong signature
+  pub signatures : Answers fresh 0x1010 1 load wrongSignature × Answers fresh 0x1011 1 save wrongSignature
+  -- only 0 accepted, empties the list
+  pub emptied : Answers (device true 100 3) 0x1003 0 1 invalidValue × Reads (written (device true 100 3) 0x1003_00 0) 0x1003 1 Blank
+  -- 1003-1..4 beyond the count are blank
+  pub errors : Reads (device true 100 3) 0x1003 0 (Number 3) × Reads (device true 100 3) 0x1003 3 (Number 0x5000) × Reads (device true 100 3) 0x1003 4 Blank
+  -- 1 while missing, else 0
+  pub register : Reads fresh 0x1001 0 (Number 1) × Reads (at 100) 0x1001 0 (Number 0) × Reads fresh 0x6503 0 (Number 1)
+  -- the value of entry 6000-0, plus bit 15 when Operational
+  pub status : Reads ready 0x6500 0 (Number 4) × Shows ready true 0x6500 0 (Number 0x8004)
+  -- of 6000h also T, to 1,000,000 with scaling; 6003h and the offset to 0
+  pub rescaled : Reads (written preset 0x6000_00 4) 0x6002 0 (Number 1000000)
+      × Reads (written preset 0x6000_00 4) 0x6003 0 (Number 0)
+      × Reads (written preset 0x6000_00 4) 0x6509 0 (Number 0)
+      × Reads (written preset 0x6000_00 0) 0x6002 0 (Number 1048576)
+  -- "save" copies the settings (rw entries but 1003, 1010, 1011, plus the offset) to the saved set
+  pub saves : (written preset 0x1010_01 save .saved ≡ preset .settings) × (written preset 0x1010_01 save .settings ≡ preset .settings)
+  -- "load" makes the saved set factory; running settings change at the next reset
+  pub loads : let saved = written preset 0x1010_01 save in (written saved 0x1011_01 load .saved ≡ factory 1) × (written saved 0x1011_01 load .settings ≡ preset .settings)
+  -- each rw entry takes some write, at a valid device
+  pub valid : ValidDevice ready
+  pub each : takeAll ready table writes ≡ true
