@@ -1,0 +1,53 @@
+-- The reply to a request: 8 bytes, bytes 1..3 of the request repeated, unused bytes 0; and what the request does.
+use Prim.Native.Nat.{ℕ}
+use lib.Dec.{eqb}
+use mathlib.Core.Bool.{Bool, true, false, cond}
+use mathlib.Core.List.{List, [], _∷_}
+use Rattle.can.specs.Number.{lowFirst}
+use Rattle.dictionary.specs.declared.Device.{Device}
+use Rattle.dictionary.specs.declared.read.Shown.{Shown}
+use Rattle.dictionary.specs.declared.read.Shown.the-variants.{Blank, Number}
+use Rattle.dictionary.specs.Writes.{written}
+use Rattle.sdo.specs.declared.reply.Effect.{Effect}
+use Rattle.sdo.specs.declared.reply.Effect.the-variants.{Nothing, Reply, Write}
+use Rattle.sdo.specs.declared.reply.Served.{Served}
+use Rattle.sdo.specs.Request.{byte}
+
+-- Whether a reply joins.
+abbrev pub replies : Effect → Bool
+replies Nothing = false
+replies Reply = true
+replies (Write k v) = true
+
+-- The device after the request.
+abbrev pub carriedOut : Device → Effect → Device
+carriedOut d Nothing = d
+carriedOut d Reply = d
+carriedOut d (Write k v) = written d k v
+
+abbrev pub framed : ℕ → List ℕ → ℕ → List ℕ
+framed first f content = first ∷ byte f 1 ∷ byte f 2 ∷ byte f 3 ∷ lowFirst 4 content
+
+-- Read answers 4Fh, 4Bh, 43h for 1, 2, 4 bytes;
+abbrev pub command : ℕ → ℕ
+command width = cond (eqb width 1) 0x4F (cond (eqb width 2) 0x4B 0x43)
+
+abbrev pub answered : List ℕ → ℕ → ℕ → Served
+answered f width n = record { bytes = framed (command width) f n; effect = Reply }
+
+-- write 60h;
+abbrev pub confirmed : List ℕ → ℕ → ℕ → Served
+confirmed f k v = record { bytes = framed 0x60 f 0; effect = Write k v }
+
+-- abort 80h with the code, low byte first.
+abbrev pub refused : List ℕ → ℕ → Served
+refused f code = record { bytes = framed 0x80 f code; effect = Reply }
+
+-- The client's abort: no effect, no reply.
+abbrev pub nothing : Served
+nothing = record { bytes = 0 ∷ 0 ∷ 0 ∷ 0 ∷ 0 ∷ 0 ∷ 0 ∷ 0 ∷ []; effect = Nothing }
+
+-- A read of a blank: 0800 0024h
+abbrev pub shownReply : List ℕ → ℕ → Shown → Served
+shownReply f width Blank = refused f 0x08000024
+shownReply f width (Number n) = answered f width n

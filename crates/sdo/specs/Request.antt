@@ -1,0 +1,49 @@
+-- A request taken apart is a read, a write, or a reason to abort: 01's chapter "Service requests". A request is its eight bytes, f.
+use Prim.Native.Nat.{ℕ, _-_, _/_, _%_}
+use lib.Dec.{eqb}
+use lib.ListN.{getD}
+use mathlib.Core.Bool.{Bool, _&&_, cond}
+use mathlib.Core.List.{List, [], _∷_}
+use Rattle.can.specs.Number.{number}
+use Rattle.sdo.specs.declared.request.Ask.{Ask}
+use Rattle.sdo.specs.declared.request.Ask.the-variants.{Read, Write}
+use Rattle.sdo.specs.declared.request.Request.{Request}
+use Rattle.sdo.specs.declared.request.Request.the-variants.{Asked, Reason}
+
+abbrev pub byte : List ℕ → ℕ → ℕ
+byte f k = getD f k 0
+
+-- bytes 1..3: the index, low byte first, and the sub-index
+abbrev pub indexOf : List ℕ → ℕ
+indexOf f = number (byte f 1 ∷ byte f 2 ∷ [])
+
+abbrev pub subOf : List ℕ → ℕ
+subOf f = byte f 3
+
+-- bytes 4..7
+abbrev pub dataOf : List ℕ → ℕ
+dataOf f = number (byte f 4 ∷ byte f 5 ∷ byte f 6 ∷ byte f 7 ∷ [])
+
+-- Top three bits of byte 0: 2 read, 1 write, 4 abort (no effect, no reply).
+abbrev pub top : List ℕ → ℕ
+top f = byte f 0 / 32
+
+abbrev pub aborting : List ℕ → Bool
+aborting f = eqb (top f) 4
+
+abbrev pub reading : List ℕ → Bool
+reading f = eqb (top f) 2
+
+-- In a write, bit 1 must be set;
+abbrev pub writing : List ℕ → Bool
+writing f = eqb (top f) 1 && eqb (byte f 0 / 2 % 2) 1
+
+-- with bit 0 set the length is 4 less bits 3..2, with bit 0 clear it is the entry's, which stands as 0 here.
+abbrev pub saidLength : ℕ → ℕ
+saidLength b = cond (eqb (b % 2) 1) (4 - b / 4 % 4) 0
+
+abbrev pub taken : List ℕ → Request
+taken f =
+    cond (reading f) (Asked (Read (indexOf f) (subOf f)))
+    (cond (writing f) (Asked (Write (indexOf f) (subOf f) (saidLength (byte f 0)) (dataOf f)))
+    Reason)

@@ -1,0 +1,103 @@
+-- What is due to a request: 01's chapter "Service requests", the list "First that applies".
+use Prim.Native.Nat.{ℕ, _-_, _/_, _%_}
+use lib.Dec.{eqb, ltb}
+use mathlib.Core.Bool.{Bool, true, false, not, _&&_, cond}
+use mathlib.Core.List.{List, [], _∷_}
+use Rattle.cases.specs.Cases.{firstOf}
+use Rattle.dictionary.specs.declared.Device.{Device}
+use Rattle.dictionary.specs.declared.table.Row.{Row}
+use Rattle.dictionary.specs.declared.table.Found.{Found}
+use Rattle.dictionary.specs.declared.table.Found.the-variants.{At, NoSubIndex, NoIndex}
+use Rattle.dictionary.specs.declared.read.Shown.{Shown}
+use Rattle.dictionary.specs.declared.read.Shown.the-variants.{Blank, Number}
+use Rattle.dictionary.specs.Table.{noRow, rowAt, width, isRw, accepted, key, lookup}
+use Rattle.dictionary.specs.Reads.{shownAt}
+use Rattle.dictionary.specs.Accepted.{accepts, isSignature, barred}
+use Rattle.sdo.specs.declared.reply.Served.{Served}
+use Rattle.sdo.specs.Request.{byte, indexOf, subOf, dataOf, aborting, reading, writing}
+use Rattle.sdo.specs.Reply.{nothing, answered, confirmed, refused}
+
+-- What is due: nothing, the value of an entry of so many bytes, the confirmation that an entry got a value, or an abort code.
+pub data Due : Type 0 where
+  none : Due
+  value : ℕ → ℕ → Due
+  confirmation : ℕ → ℕ → Due
+  abort : ℕ → Due
+
+-- The reply that joins, and what the request does.
+abbrev pub answer : List ℕ → Due → Served
+answer f none = nothing
+answer f (value width n) = answered f width n
+answer f (confirmation k v) = confirmed f k v
+answer f (abort code) = refused f code
+
+abbrev pub noIndex : Found → Bool
+noIndex NoIndex = true
+noIndex NoSubIndex = false
+noIndex (At p) = false
+
+abbrev pub noSubIndex : Found → Bool
+noSubIndex NoIndex = false
+noSubIndex NoSubIndex = true
+noSubIndex (At p) = false
+
+abbrev pub rowOf : Found → Row
+rowOf NoIndex = noRow
+rowOf NoSubIndex = noRow
+rowOf (At p) = rowAt p
+
+abbrev pub shownOf : Device → Bool → Found → Shown
+shownOf d o NoIndex = Blank
+shownOf d o NoSubIndex = Blank
+shownOf d o (At p) = shownAt d o p
+
+abbrev pub isBlank : Shown → Bool
+isBlank Blank = true
+isBlank (Number n) = false
+
+abbrev pub numberIn : Shown → ℕ
+numberIn Blank = 0
+numberIn (Number n) = n
+
+-- with bit 0 set the length is 4 less bits 3..2, with bit 0 clear it is the entry's
+abbrev pub lengthOf : List ℕ → ℕ → ℕ
+lengthOf f width = cond (eqb (byte f 0 % 2) 1) (4 - byte f 0 / 4 % 4) width
+
+-- the entry's bytes of the data; bytes past its length are ignored
+abbrev pub cutTo : ℕ → ℕ → ℕ
+cutTo width content = cond (eqb width 1) (content % 256) (cond (eqb width 2) (content % 65536) (content % 4294967296))
+
+-- "First that applies", of the request f for x, what is found of the entry asked for; a write that none of them stops is confirmed.
+abbrev pub steps : Device → Bool → List ℕ → Found → List (Bool × Due)
+steps d o f x =
+    let r = rowOf x in
+    let v = cutTo (width r) (dataOf f) in
+    let fits = accepts (accepted r) (d .node) (d .settings .profile .range) v in
+    -- 1. other top bits, or a write with bit 1 clear
+    (not (reading f) && not (writing f), abort 0x05040001) ∷
+    -- 2. no such index; no such sub-index
+    (noIndex x, abort 0x06020000) ∷
+    (noSubIndex x, abort 0x06090011) ∷
+    -- 3. write to ro
+    (writing f && not (isRw r), abort 0x06010002) ∷
+    -- 4. length: longer, shorter
+    (writing f && ltb (width r) (lengthOf f (width r)), abort 0x06070012) ∷
+    (writing f && ltb (lengthOf f (width r)) (width r), abort 0x06070013) ∷
+    -- 5. value; for 1010-1, 1011-1 a wrong signature 0800 0020h
+    (writing f && not fits && isSignature (accepted r), abort 0x08000020) ∷
+    (writing f && not fits, abort 0x06090030) ∷
+    -- 6. writes only: the state
+    (writing f && barred d (key r) v, abort 0x08000022) ∷
+    -- 7. read of a blank
+    (reading f && isBlank (shownOf d o x), abort 0x08000024) ∷
+    (reading f, value (width r) (numberIn (shownOf d o x))) ∷
+    []
+
+abbrev pub dueOf : Device → Bool → List ℕ → Found → Due
+dueOf d o f x =
+    let r = rowOf x in
+    -- 4 abort (no effect, no reply)
+    cond (aborting f) none (firstOf (steps d o f x) (confirmation (key r) (cutTo (width r) (dataOf f))))
+
+unfoldable pub due : Device → Bool → List ℕ → Due
+due d o f = dueOf d o f (lookup (indexOf f) (subOf f))

@@ -1,0 +1,103 @@
+//! The expedited SDO server: from a request's eight bytes to the reply's, and to what the write does.
+ghost use mathlib.Core.Path.{_≡_};
+ghost use Rattle.position.specs.Profile.{ValidProfile};
+ghost use Rattle.sdo.specs.Steps.{Within, readReply, writeReply, replyTo};
+ghost use Rattle.sdo.specs.Service.{answer, due};
+use crate::reply::Served;
+use crate::request::Ask;
+use crate::request::Request;
+use can::Bytes;
+use dictionary::Device;
+use dictionary::table::Found;
+
+mod download;
+pub mod reply;
+pub mod request;
+
+const UNKNOWN_COMMAND: u32 = 0x0504_0001;
+
+const NO_SUCH_INDEX: u32 = 0x0602_0000;
+
+const NO_SUCH_SUB_INDEX: u32 = 0x0609_0011;
+
+// The reply that is due to a request, and what the request does; a client's abort gets none and does nothing.
+pub fn serve(device: Device, operational: bool, bytes: Bytes) -> Served
+    requires { ⌜ ValidProfile (device .settings .profile) ⌝ }
+    ensures { λ r. ⌜ r ≡ answer bytes (due device operational bytes) ⌝ }
+{
+    if request::is_abort(bytes[0]) {
+        return reply::none();
+    }
+    reply_to(device, operational, bytes, request::taken_apart(bytes))
+}
+
+fn reply_to(device: Device, operational: bool, bytes: Bytes, request: Request) -> Served
+    requires { ⌜ ValidProfile (device .settings .profile) ⌝ }
+    ensures { λ r. ⌜ r ≡ replyTo device operational bytes request ⌝ }
+{
+    let Request::Asked(ask) = request else {
+        return reply::abort(bytes, UNKNOWN_COMMAND);
+    };
+    match ask {
+        Ask::Read { index, sub } => {
+            read(
+                device,
+                operational,
+                bytes,
+                dictionary::table::find(index, sub),
+            )
+        }
+        Ask::Write {
+            index,
+            sub,
+            length,
+            content,
+        } => {
+            write(
+                device,
+                bytes,
+                length,
+                content,
+                dictionary::table::find(index, sub),
+            )
+        }
+    }
+}
+
+fn read(device: Device, operational: bool, bytes: Bytes, found: Found) -> Served
+    requires { ⌜ (Within found) × (ValidProfile (device .settings .profile)) ⌝ }
+    ensures { λ r. ⌜ r ≡ readReply device operational bytes found ⌝ }
+{
+    match found {
+        Found::NoIndex => reply::abort(bytes, NO_SUCH_INDEX),
+        Found::NoSubIndex => reply::abort(bytes, NO_SUCH_SUB_INDEX),
+        Found::At(place) => {
+            let row = dictionary::table::row_at(place);
+            let width = row.2;
+            reply::shown(
+                bytes,
+                width,
+                dictionary::read::read(device, operational, place),
+            )
+        }
+    }
+}
+
+fn write(device: Device, bytes: Bytes, length: u8, content: u32, found: Found) -> Served
+    requires { ⌜ Within found ⌝ }
+    ensures { λ r. ⌜ r ≡ writeReply device bytes length content found ⌝ }
+{
+    match found {
+        Found::NoIndex => reply::abort(bytes, NO_SUCH_INDEX),
+        Found::NoSubIndex => reply::abort(bytes, NO_SUCH_SUB_INDEX),
+        Found::At(place) => {
+            download::to_row(
+                device,
+                bytes,
+                length,
+                content,
+                dictionary::table::row_at(place),
+            )
+        }
+    }
+}
