@@ -15,10 +15,11 @@ use Rattle.dictionary.specs.Table.{entries, table, noRow, noSub, lookupF
 use Rattle.dictionary.specs.Laws.{Stands, Finds}
 use Rattle.dictionary.proofs.Columns.{rows-are}
 
--- what an answer says of the rows l, of which the first stands at p
+-- the row at k among l has the index i
 abbrev Has : List Row → ℕ → ℕ → Type 0
 Has l i k = (k < length l) × (getD l k noRow .0 ≡ i)
 
+-- what an answer says of the rows l, of which the first stands at p
 abbrev Tells : ℕ → List Row → ℕ → ℕ → Found → Type 0
 Tells p l i j (At q) = (k : ℕ) × (q ≡ p + k) × Has l i k × (getD l k noRow .1 ≡ j)
 Tells p l i j NoSubIndex = (k : ℕ) × Has l i k
@@ -51,7 +52,7 @@ tells p (r ∷ l) i j =
     (λ b. same-index p r l i j (eqb-true _ _ a) next known))
     (λ a. other-index p r l i j (eqb-false _ _ a) next known)
 
--- n places, the first p
+-- found at n places in turn, the first p
 abbrev places : ℕ → ℕ → List Found
 places p zero = []
 places p (suc n) = At p ∷ places (suc p) n

@@ -11,6 +11,7 @@ use Rattle.dictionary.specs.Writes.{written}
 use Rattle.dictionary.specs.Laws.{Shows, risesFrom, Laws}
 use Rattle.dictionary.proofs.Factory.{factory-valid}
 use Rattle.dictionary.proofs.Valid.{written-fits, written-valid}
+use Rattle.dictionary.proofs.ReadBack.{reads-back}
 use Rattle.dictionary.proofs.Typed.{typed}
 use Rattle.dictionary.proofs.Found.{finds}
 
@@ -32,6 +33,7 @@ laws =
       factory-valid = factory-valid;
       written-valid = written-valid;
       written-fits = written-fits;
+      reads-back = reads-back;
       typed = typed;
       finds = finds;
       rising = rising;

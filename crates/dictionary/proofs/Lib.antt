@@ -6,5 +6,6 @@ pub mod Found
 pub mod Factory
 pub mod Valid
 pub mod Typed
+pub mod ReadBack
 pub mod Laws
 pub mod Worked

@@ -5,17 +5,12 @@ use mathlib.Core.Path.{_≡_, sym}
 use mathlib.Core.Bool.{Bool, true, false, cond}
 use mathlib.Core.List.{List, [], _∷_}
 use lib.ListN.{length, getD}
-use Rattle.cases.proofs.Cases.{true-false}
+use Rattle.cases.proofs.Cases.{true-false, Each, _▸_, end}
 
 -- those that pass a test
 abbrev pub those : {A : Type 0} → (A → Bool) → List A → List A
 those t [] = []
 those t (a ∷ l) = cond (t a) (a ∷ those t l) (those t l)
-
-infixr 5 _▸_
-pub data Each {A : Type 0} (P : A → Type 0) : List A → Type 0 where
-  end : Each P []
-  _▸_ : {a : A} {l : List A} → P a → Each P l → Each P (a ∷ l)
 
 module _ {A : Type 0} (P : A → Type 0) where
   first : (t : Bool) (a : A) (l : List A) → t ≡ true → Each P (cond t (a ∷ l) l) → P a

@@ -19,7 +19,8 @@ use Rattle.dictionary.specs.Accepted.{within, transmissionType}
 use Rattle.dictionary.specs.Reads.{noEntry}
 use Rattle.dictionary.specs.Valid.{ValidDevice}
 use Rattle.dictionary.proofs.Columns.{row-of}
-use Rattle.dictionary.proofs.Those.{those, Each, _▸_, end, at-each}
+use Rattle.cases.proofs.Cases.{Each, _▸_, end}
+use Rattle.dictionary.proofs.Those.{those, at-each}
 
 at-most : {n b c : ℕ} → n ≤ b → T (ltb b c) → n < c
 at-most {n} {b} {c} h t = omega (arith, lit< {m = b} {n = c} t)

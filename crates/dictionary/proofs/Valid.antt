@@ -22,7 +22,8 @@ use Rattle.dictionary.specs.Writes.{rangeFor, rescaledTo, written, Fits}
 use Rattle.dictionary.specs.Valid.{ValidPdo, ValidCommunication, ValidSettings, ValidDevice}
 use Rattle.dictionary.specs.Laws.{Takes}
 use Rattle.dictionary.proofs.Accepted.{taken}
-use Rattle.dictionary.proofs.Those.{those, Each, _▸_, end, at-each}
+use Rattle.cases.proofs.Cases.{Each, _▸_, end}
+use Rattle.dictionary.proofs.Those.{those, at-each}
 use Rattle.dictionary.proofs.Factory.{factory-valid}
 
 -- a number of that length is one of its type
@@ -109,7 +110,7 @@ module _ {p : Profile} (v : ℕ) (h : ValidProfile p) where
 record Taken (d : Device) (r : Row) (v : ℕ) : Type 0 where
   long : v < 256 ^ (r .2)
   accepted : accepts (r .4) (d .node) (d .settings .profile .range) v ≡ true
-  -- 6002h or 6005h with scaling off
+  -- it is not 6002h or 6005h with scaling off
   scaling : ((eqb (key r) 0x6002_00 || eqb (key r) 0x6005_01) && not (bit scalingBit (d .settings .profile .operating))) ≡ false
 
 Keeps : Row → Type 0

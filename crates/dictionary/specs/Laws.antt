@@ -5,15 +5,15 @@ use lib.Dec.{ltb}
 use lib.ListN.{length, getD}
 use mathlib.Core.Path.{_≡_}
 use mathlib.Core.Logic.{_↔_}
-use mathlib.Core.Bool.{Bool, true, _&&_}
+use mathlib.Core.Bool.{Bool, true, _&&_, cond}
 use mathlib.Core.List.{List, [], _∷_, map}
 use Rattle.dictionary.specs.declared.Device.{Device}
 use Rattle.dictionary.specs.declared.table.Found.the-variants.{At, NoSubIndex, NoIndex}
 use Rattle.dictionary.specs.declared.read.Shown.{Shown}
 use Rattle.dictionary.specs.declared.read.Shown.the-variants.{Number}
 use Rattle.dictionary.specs.Settings.{factory}
-use Rattle.dictionary.specs.Table.{entries, table, rowAt, index, sub, width, isRw, key, lookup}
-use Rattle.dictionary.specs.Accepted.{refusal}
+use Rattle.dictionary.specs.Table.{entries, table, rowAt, index, sub, width, isRw, accepted, key, lookup}
+use Rattle.dictionary.specs.Accepted.{isSignature, refusal}
 use Rattle.dictionary.specs.Reads.{noEntry, shownAt}
 use Rattle.dictionary.specs.Writes.{written, Fits}
 use Rattle.dictionary.specs.Valid.{ValidSettings, ValidDevice}
@@ -51,13 +51,19 @@ risesFrom a [] = true
 risesFrom a (b ∷ l) = ltb a b && risesFrom b l
 
 pub record Laws : Type 0 where
+  -- Power-up starts with factory settings, the saved set equal to them.
   pub factory-valid : (n : ℕ) → 1 ≤ n → n ≤ 127 → ValidSettings n (factory n)
+  -- An accepted write leaves a valid device,
   pub written-valid : (d : Device) (p v : ℕ) → Takes d p v → ValidDevice d → ValidDevice (written d (key (rowAt p)) v)
+  -- is one that `write` takes,
   pub written-fits : (d : Device) (p v : ℕ) → Takes d p v → Fits (d .settings .profile) (key (rowAt p)) v
-  -- a number has no more bytes than its entry's type
+  -- and is what the entry then reads; 1010-1 and 1011-1 read 1.
+  pub reads-back : (d : Device) (o : Bool) (p v : ℕ) → Takes d p v
+      → getD entries p noEntry .number (written d (key (rowAt p)) v) o ≡ cond (isSignature (accepted (rowAt p))) 1 v
+  -- A number has no more bytes than its entry's type.
   pub typed : (d : Device) (o : Bool) (p : ℕ) → p < length table → ValidDevice d → getD entries p noEntry .number d o < 256 ^ width (rowAt p)
   pub finds : (i j : ℕ) → Finds i j
-  -- in index order, each entry once
+  -- in index order, so that each entry stands once
   pub rising : risesFrom 0 (map key table) ≡ true
   -- 6200-0: 1800-5 under a second index
   pub second-reads : (d : Device) (o : Bool) → let event = Number (d .settings .communication .pdo1 .event) in Shows d o 0x1800 5 event × Shows d o 0x6200 0 event

@@ -94,6 +94,13 @@ coarse r = after (at r) ((0x6000_00, 4) ∷ (0x6005_01, 10000) ∷ [])
 abbrev pub preset : Device
 preset = written (at 100) 0x6003_00 40
 
+-- and 1017h = 1,000, none of it saved; then saved
+abbrev pub altered : Device
+altered = written preset 0x1017_00 1000
+
+abbrev pub saved : Device
+saved = written altered 0x1010_01 save
+
 -- The rw entries among these rows are, in their order, those of the writes, and each takes the value.
 abbrev pub takeAll : Device → List Row → List (ℕ × ℕ) → Bool
 takeAll d [] [] = true
@@ -181,9 +188,9 @@ pub record Worked : Type 0 where
       × Reads (written preset 0x6000_00 4) 0x6509 0 (Number 0)
       × Reads (written preset 0x6000_00 0) 0x6002 0 (Number 1048576)
   -- "save" copies the settings (rw entries but 1003, 1010, 1011, plus the offset) to the saved set
-  pub saves : (written preset 0x1010_01 save .saved ≡ preset .settings) × (written preset 0x1010_01 save .settings ≡ preset .settings)
+  pub saves : (saved .saved ≡ altered .settings) × (saved .settings ≡ altered .settings)
   -- "load" makes the saved set factory; running settings change at the next reset
-  pub loads : let saved = written preset 0x1010_01 save in (written saved 0x1011_01 load .saved ≡ factory 1) × (written saved 0x1011_01 load .settings ≡ preset .settings)
+  pub loads : (written saved 0x1011_01 load .saved ≡ factory 1) × (written saved 0x1011_01 load .settings ≡ altered .settings)
   -- each rw entry takes some write, at a valid device
   pub valid : ValidDevice ready
   pub each : takeAll ready table writes ≡ true
