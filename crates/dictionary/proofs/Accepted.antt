@@ -6,7 +6,7 @@ use mathlib.Core.Bool.{Bool, true, false, not, cond}
 use Rattle.dictionary.specs.declared.Device.{Device}
 use Rattle.dictionary.specs.declared.table.Row.{Row}
 use Rattle.dictionary.specs.Table.{keyOf}
-use Rattle.dictionary.specs.Accepted.{accepts, isSignature, valueRefusal, barred, refusal}
+use Rattle.dictionary.specs.Accepted.{acceptsIn, isSignature, valueRefusal, barred, refusal}
 
 -- the code of a value that is accepted or not, of a signature or not
 abbrev code : Bool → Bool → ℕ
@@ -33,7 +33,7 @@ unrefused false false b e = absurd (omega arith)
 
 module _ (d : Device) (r : Row) (v x : ℕ) (e : x ≡ valueRefusal (r .4) (d .node) (d .settings .profile .range) v) where
   abbrev accepted : Bool
-  accepted = accepts (r .4) (d .node) (d .settings .profile .range) v
+  accepted = acceptsIn d r v
 
   abbrev stops : Bool
   stops = barred d (keyOf (r .0) (r .1)) v
@@ -47,6 +47,6 @@ module _ (d : Device) (r : Row) (v x : ℕ) (e : x ≡ valueRefusal (r .4) (d .n
   state-next b f h = rw f (free accepted (isSignature (r .4)) stops (rw (← e) h))
 
 pub taken : (d : Device) (r : Row) (v : ℕ) → refusal d r v ≡ 0
-    → (accepts (r .4) (d .node) (d .settings .profile .range) v ≡ true) × (barred d (keyOf (r .0) (r .1)) v ≡ false)
+    → (acceptsIn d r v ≡ true) × (barred d (keyOf (r .0) (r .1)) v ≡ false)
 unfolding refusal
-taken d r v e = unrefused (accepts (r .4) (d .node) (d .settings .profile .range) v) (isSignature (r .4)) (barred d (keyOf (r .0) (r .1)) v) e
+taken d r v e = unrefused (acceptsIn d r v) (isSignature (r .4)) (barred d (keyOf (r .0) (r .1)) v) e

@@ -6,7 +6,7 @@ use lib.ListN.{getD, length-map}
 use borrow.Author.Tests.{eqb-true}
 use Rattle.dictionary.specs.declared.Device.{Device}
 use Rattle.dictionary.specs.Table.{Entry, entries, table, rowAt, key}
-use Rattle.dictionary.specs.Accepted.{accepts, isSignature}
+use Rattle.dictionary.specs.Accepted.{acceptsIn, isSignature}
 use Rattle.dictionary.specs.Reads.{noEntry}
 use Rattle.dictionary.specs.Writes.{written}
 use Rattle.dictionary.specs.Laws.{Takes}
@@ -16,7 +16,7 @@ use Rattle.cases.proofs.Cases.{Each, _▸_, end}
 use Rattle.dictionary.proofs.Those.{those, at-each}
 
 ReadsBack : Entry → Type 0
-ReadsBack e = (d : Device) (o : Bool) (v : ℕ) → accepts (e .row .4) (d .node) (d .settings .profile .range) v ≡ true
+ReadsBack e = (d : Device) (o : Bool) (v : ℕ) → acceptsIn d (e .row) v ≡ true
     → e .number (written d (key (e .row)) v) o ≡ cond (isSignature (e .row .4)) 1 v
 
 each : Each ReadsBack (those (λ e. e .row .3) entries)

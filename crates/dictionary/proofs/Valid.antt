@@ -17,7 +17,7 @@ use Rattle.dictionary.specs.declared.Device.{Device}
 use Rattle.dictionary.specs.declared.table.Row.{Row}
 use Rattle.dictionary.specs.Settings.{pdo}
 use Rattle.dictionary.specs.Table.{missing, entries, table, noRow, rowAt, key}
-use Rattle.dictionary.specs.Accepted.{within, pdoIdentifier, transmissionType, pdoBarred, accepts}
+use Rattle.dictionary.specs.Accepted.{within, pdoIdentifier, transmissionType, pdoBarred, accepts, acceptsIn}
 use Rattle.dictionary.specs.Writes.{rangeFor, rescaledTo, written, Fits}
 use Rattle.dictionary.specs.Valid.{ValidPdo, ValidCommunication, ValidSettings, ValidDevice}
 use Rattle.dictionary.specs.Laws.{Takes}
@@ -109,7 +109,7 @@ module _ {p : Profile} (v : ℕ) (h : ValidProfile p) where
 -- what is known of v where the entry of a row takes it
 record Taken (d : Device) (r : Row) (v : ℕ) : Type 0 where
   long : v < 256 ^ (r .2)
-  accepted : accepts (r .4) (d .node) (d .settings .profile .range) v ≡ true
+  accepted : acceptsIn d r v ≡ true
   -- it is not 6002h or 6005h with scaling off
   scaling : ((eqb (key r) 0x6002_00 || eqb (key r) 0x6005_01) && not (bit scalingBit (d .settings .profile .operating))) ≡ false
 

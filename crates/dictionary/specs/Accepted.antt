@@ -77,10 +77,14 @@ barred d k v =
     || pdoBarred 0x1800 (d .settings .communication .pdo1) k v
     || pdoBarred 0x1801 (d .settings .communication .pdo2) k v
 
+-- whether the entry of a row accepts v
+abbrev pub acceptsIn : Device → Row → ℕ → Bool
+acceptsIn d r v = accepts (accepted r) (d .node) (d .settings .profile .range) v
+
 -- The abort code that is due to a write of v to the entry of a row, for its value and then for the state; 0 for none.
 unfoldable pub refusal : Device → Row → ℕ → ℕ
 refusal d r v =
     firstOf (
-    (not (accepts (accepted r) (d .node) (d .settings .profile .range) v), valueCode (accepted r)) ∷
+    (not (acceptsIn d r v), valueCode (accepted r)) ∷
     (barred d (key r) v, 0x08000022) ∷ [])
     0

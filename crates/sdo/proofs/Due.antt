@@ -17,7 +17,7 @@ use Rattle.dictionary.specs.declared.read.Shown.{Shown}
 use Rattle.dictionary.specs.declared.read.Shown.the-variants.{Blank, Number}
 use Rattle.dictionary.specs.Table.{table, noRow, keyOf, lookup}
 use Rattle.dictionary.specs.Reads.{shownAt}
-use Rattle.dictionary.specs.Accepted.{accepts, isSignature, barred, refusal}
+use Rattle.dictionary.specs.Accepted.{acceptsIn, isSignature, barred, refusal}
 use Rattle.sdo.specs.Request.{byte, indexOf, subOf, dataOf, aborting, reading, writing, taken}
 use Rattle.sdo.specs.Reply.{nothing, confirmed, refused, shownReply}
 use Rattle.sdo.specs.Service.{value, confirmation, abort, answer, isBlank, numberIn, lengthOf, cutTo, dueOf, due}
@@ -84,7 +84,7 @@ module _ (d : Device) (o : Bool) (f : List ℕ) (n : aborting f ≡ false) where
       let r = getD table p noRow in
       let v = cutTo (r .2) (dataOf f) in
       rw (n, a, b, q, length-is (eqb (byte f 0 % 2) 1) (byte f 0 / 4) (r .2))
-      (write-due f (keyOf (r .0) (r .1)) v (r .3) (ltb (r .2) (lengthOf f (r .2))) (ltb (lengthOf f (r .2)) (r .2)) (accepts (r .4) (d .node) (d .settings .profile .range) v) (isSignature (r .4)) (barred d (keyOf (r .0) (r .1)) v))
+      (write-due f (keyOf (r .0) (r .1)) v (r .3) (ltb (r .2) (lengthOf f (r .2))) (ltb (lengthOf f (r .2)) (r .2)) (acceptsIn d r v) (isSignature (r .4)) (barred d (keyOf (r .0) (r .1)) v))
   by-found x false false a b q = rw (n, a, b)
 
   pub reply-due : replyTo d o f (taken f) ≡ answer f (due d o f)

@@ -17,7 +17,7 @@ use Rattle.dictionary.specs.declared.read.Shown.{Shown}
 use Rattle.dictionary.specs.declared.read.Shown.the-variants.{Blank, Number}
 use Rattle.dictionary.specs.Table.{entries, table, noRow, keyOf, lookup}
 use Rattle.dictionary.specs.Reads.{shownAt}
-use Rattle.dictionary.specs.Accepted.{accepts, isSignature, barred, refusal}
+use Rattle.dictionary.specs.Accepted.{acceptsIn, isSignature, barred, refusal}
 use Rattle.dictionary.proofs.Columns.{rows-are}
 use Rattle.sdo.specs.Request.{indexOf, subOf, dataOf, aborting, reading, writing}
 use Rattle.sdo.specs.Service.{isBlank, numberIn, lengthOf, cutTo, dueOf, due}
@@ -72,7 +72,7 @@ cut-fits w v false true c e f g h = rw (eqb-true w 2 f) (mod-lt v (omega arith))
 cut-fits w v false false true e f g h = rw (eqb-true w 4 g) (mod-lt v (omega arith))
 cut-fits w v false false false e f g h = true-false (sym h)
 
-unrefused : (d : Device) (r : Row) (v : ℕ) → accepts (r .4) (d .node) (d .settings .profile .range) v ≡ true → barred d (keyOf (r .0) (r .1)) v ≡ false → refusal d r v ≡ 0
+unrefused : (d : Device) (r : Row) (v : ℕ) → acceptsIn d r v ≡ true → barred d (keyOf (r .0) (r .1)) v ≡ false → refusal d r v ≡ 0
 unfolding refusal
 unrefused d r v a b = rw (a, b)
 
@@ -87,7 +87,7 @@ module _ (d : Device) (o : Bool) (f : List ℕ) where
       let r = getD table p noRow in
       let k = keyOf (r .0) (r .1) in
       let v = cutTo (r .2) (dataOf f) in
-      let a = accepts (r .4) (d .node) (d .settings .profile .range) v in
+      let a = acceptsIn d r v in
       let s = shownAt d o p in
       by P (aborting f) (λ _. tt) (λ _.
       by P (not (reading f) && not (writing f)) (λ _. tt) (λ either.

@@ -12,7 +12,7 @@ use Rattle.dictionary.specs.declared.read.Shown.{Shown}
 use Rattle.dictionary.specs.declared.read.Shown.the-variants.{Blank, Number}
 use Rattle.dictionary.specs.Table.{noRow, rowAt, width, isRw, accepted, key, lookup}
 use Rattle.dictionary.specs.Reads.{shownAt}
-use Rattle.dictionary.specs.Accepted.{accepts, isSignature, barred}
+use Rattle.dictionary.specs.Accepted.{acceptsIn, isSignature, barred}
 use Rattle.sdo.specs.declared.reply.Served.{Served}
 use Rattle.sdo.specs.Request.{byte, indexOf, subOf, dataOf, aborting, reading, writing}
 use Rattle.sdo.specs.Reply.{nothing, answered, confirmed, refused}
@@ -72,7 +72,6 @@ abbrev pub steps : Device → Bool → List ℕ → Found → List (Bool × Due)
 steps d o f x =
     let r = rowOf x in
     let v = cutTo (width r) (dataOf f) in
-    let fits = accepts (accepted r) (d .node) (d .settings .profile .range) v in
     -- 1. other top bits, or a write with bit 1 clear
     (not (reading f) && not (writing f), abort 0x05040001) ∷
     -- 2. no such index; no such sub-index
@@ -84,8 +83,8 @@ steps d o f x =
     (writing f && ltb (width r) (lengthOf f (width r)), abort 0x06070012) ∷
     (writing f && ltb (lengthOf f (width r)) (width r), abort 0x06070013) ∷
     -- 5. value; for 1010-1, 1011-1 a wrong signature 0800 0020h
-    (writing f && not fits && isSignature (accepted r), abort 0x08000020) ∷
-    (writing f && not fits, abort 0x06090030) ∷
+    (writing f && not (acceptsIn d r v) && isSignature (accepted r), abort 0x08000020) ∷
+    (writing f && not (acceptsIn d r v), abort 0x06090030) ∷
     -- 6. writes only: the state
     (writing f && barred d (key r) v, abort 0x08000022) ∷
     -- 7. read of a blank
