@@ -1,6 +1,6 @@
 -- Signed numbers in 32 bits, two's complement: the offset, entry 6509-0, is an S32.
--- `Signs` says that the signed number is read back from its bits.
-use Prim.Native.Nat.{ℕ, _-_, _<_}
+-- `Signs` says that nothing is lost on the way there or back.
+use Prim.Native.Nat.{ℕ, _-_, _≤_, _<_}
 use mathlib.Core.Path.{_≡_}
 use mathlib.Core.Bool.{cond}
 use lib.Dec.{ltb}
@@ -16,6 +16,8 @@ twos (negsuc n) = 0xFFFFFFFF - n
 abbrev pub signed : ℕ → ℤ
 signed v = cond (ltb v 0x80000000) (pos v) (negsuc (0xFFFFFFFF - v))
 
--- `mag` is n of `pos n` and of `negsuc n`
-abbrev pub Signs : Type 0
-Signs = (z : ℤ) → mag z < 0x80000000 → signed (twos z) ≡ z
+-- `mag` is n of `pos n` and of `negsuc n`: a number that fits 32 bits and its bits undo each other.
+pub record Signs : Type 0 where
+  pub back : (z : ℤ) → mag z < 0x80000000 → signed (twos z) ≡ z
+  pub again : (v : ℕ) → v ≤ 0xFFFFFFFF → twos (signed v) ≡ v
+  pub bits : (z : ℤ) → mag z < 0x80000000 → twos z ≤ 0xFFFFFFFF

@@ -6,22 +6,24 @@ use mathlib.Core.Bool.{Bool, true, false, not, _&&_, cond}
 use mathlib.Core.List.{List, _∷_, _++_}
 use lib.Dec.{eqb, ltb}
 use lib.ListN.{getD, replicate}
-use borrow.Author.Tests.{eqb-true}
-use Rattle.cases.proofs.Cases.{by, true-false, both, first-each, _▸_, end}
+use borrow.Author.Tests.{eqb-true, le-ltb}
+use Rattle.cases.proofs.Cases.{by, test, true-false, both, first-each, _▸_, end}
 use Rattle.can.specs.Number.{lowFirst}
 use Rattle.can.proofs.Number.{numbers}
 use Rattle.dictionary.specs.declared.Device.{Device}
 use Rattle.dictionary.specs.declared.table.Found.{Found}
 use Rattle.dictionary.specs.declared.table.Found.the-variants.{At, NoSubIndex, NoIndex}
 use Rattle.dictionary.specs.declared.read.Shown.the-variants.{Blank, Number}
-use Rattle.dictionary.specs.Table.{entries, lookup}
+use Rattle.dictionary.specs.Table.{entries, rowAt, key, lookup}
 use Rattle.dictionary.specs.Reads.{noEntry, shownAt}
 use Rattle.dictionary.specs.Valid.{ValidDevice}
+use Rattle.dictionary.specs.Laws.{Takes}
+use Rattle.dictionary.proofs.Accepted.{taken}
 use Rattle.dictionary.proofs.Laws.{laws as dictionaryLaws}
 use Rattle.sdo.specs.Request.{byte, top, indexOf, subOf, dataOf, aborting, reading, writing}
 use Rattle.sdo.specs.Reply.{command, replies, carriedOut}
 use Rattle.sdo.specs.Service.{Due, none, value, confirmation, abort, answer, lengthOf, cutTo, rowOf, steps, dueOf, due}
-use Rattle.sdo.specs.Laws.{Told, Laws}
+use Rattle.sdo.specs.Laws.{Told, Alike, Laws}
 use Rattle.sdo.proofs.Told.{told, type-at, four-at-most}
 
 module _ (d : Device) (o : Bool) (f : List ℕ) where
@@ -76,18 +78,32 @@ is-read f e = let t = eqb-true (top f) 2 e in (rw t, rw t)
 is-write : (f : List ℕ) → writing f ≡ true → (aborting f ≡ false) × (reading f ≡ false)
 is-write f e = let t = eqb-true (top f) 1 (both (eqb (top f) 1) (eqb (byte f 0 / 2 % 2) 1) e .0) in (rw t, rw t)
 
-module _ (d : Device) (o : Bool) (f g : List ℕ) where
-  same-read : (x : Found) → reading f ≡ true → reading g ≡ true → dueOf d o f x ≡ dueOf d o g x
-  same-read NoIndex p q = rw (is-read f p .0, p, is-read g q .0, q)
-  same-read NoSubIndex p q = rw (is-read f p .0, p, is-read g q .0, q)
-  same-read (At k) p q = rw (is-read f p .0, is-read f p .1, p, is-read g q .0, is-read g q .1, q)
+module _ (d : Device) (o : Bool) (f g : List ℕ) (l : Alike f g) where
+  same-reading : reading f ≡ reading g
+  same-reading = rw (l .tops)
 
-  same-length : (w : ℕ) (t : Bool) → eqb (byte f 0 % 2) 1 ≡ t → byte f 0 % 2 ≡ byte g 0 % 2 → (byte f 0 % 2 ≡ 1 → byte f 0 / 4 % 4 ≡ byte g 0 / 4 % 4) → lengthOf f w ≡ lengthOf g w
-  same-length w true e b l = rw (← b, e, l (eqb-true _ _ e))
-  same-length w false e b l = rw (← b, e)
+  same-aborting : aborting f ≡ aborting g
+  same-aborting = rw (l .tops)
 
-  same-write : (x : Found) → writing f ≡ true → writing g ≡ true → dataOf f ≡ dataOf g → lengthOf f (rowOf x .2) ≡ lengthOf g (rowOf x .2) → dueOf d o f x ≡ dueOf d o g x
-  same-write x p q c l = rw (is-write f p .0, is-write f p .1, p, is-write g q .0, is-write g q .1, q, c, l)
+  same-writing : writing f ≡ writing g
+  same-writing =
+      test (eqb (top f) 1)
+      (λ e. let t = eqb-true (top f) 1 e in rw (← l .tops, e) (ap (λ (b : ℕ). eqb b 1) (l .bit1 t)))
+      (λ e. rw (← l .tops, e))
+
+  same-length : (w : ℕ) (t : Bool) → eqb (byte f 0 % 2) 1 ≡ t → top f ≡ 1 → lengthOf f w ≡ lengthOf g w
+  same-length w true e t = rw (← l .bit0 t, e, l .lengths t (eqb-true _ _ e))
+  same-length w false e t = rw (← l .bit0 t, e)
+
+  same-due : (x : Found) (r w : Bool) → reading f ≡ r → writing f ≡ w → dueOf d o f x ≡ dueOf d o g x
+  same-due x true true p q = true-false (sym q ∙ is-read f p .1)
+  same-due NoIndex true false p q = rw (← same-aborting, ← same-reading, p)
+  same-due NoSubIndex true false p q = rw (← same-aborting, ← same-reading, p)
+  same-due (At k) true false p q = rw (← same-aborting, ← same-reading, ← same-writing, p, q)
+  same-due x false true p q =
+      let t = eqb-true (top f) 1 (both (eqb (top f) 1) (eqb (byte f 0 / 2 % 2) 1) q .0) in
+      rw (← same-aborting, ← same-reading, ← same-writing, p, q, ← l .contents t, ← same-length (rowOf x .2) _ refl t)
+  same-due x false false p q = rw (← same-aborting, ← same-reading, ← same-writing, p, q)
 
 module _ (d : Device) (o : Bool) (f : List ℕ) where
   abbrev asked : Found
@@ -102,14 +118,23 @@ module _ (d : Device) (o : Bool) (f : List ℕ) where
       let t = rw e at (told d o f) in
       rw e (ap (λ (l : List ℕ). command w ∷ byte f 1 ∷ byte f 2 ∷ byte f 3 ∷ l) (unused-by d o f asked w n t h))
 
-  reserved-read : (g : List ℕ) → reading f ≡ true → reading g ≡ true → indexOf f ≡ indexOf g → subOf f ≡ subOf g → due d o f ≡ due d o g
-  unfolding due
-  reserved-read g p q i j = rw (← i, ← j) (same-read d o f g asked p q)
+  unused-confirming : (k v : ℕ) → due d o f ≡ confirmation k v → answer f (due d o f) .bytes ≡ 0x60 ∷ byte f 1 ∷ byte f 2 ∷ byte f 3 ∷ replicate 4 0
+  unused-confirming k v e = rw e
 
-  reserved-write : (g : List ℕ) → writing f ≡ true → writing g ≡ true → indexOf f ≡ indexOf g → subOf f ≡ subOf g → dataOf f ≡ dataOf g
-      → byte f 0 % 2 ≡ byte g 0 % 2 → (byte f 0 % 2 ≡ 1 → byte f 0 / 4 % 4 ≡ byte g 0 / 4 % 4) → due d o f ≡ due d o g
+  values : (p n : ℕ) → reading f ≡ true → asked ≡ At p → shownAt d o p ≡ Number n → due d o f ≡ value (rowAt p .2) n
   unfolding due
-  reserved-write g p q i j c b l = rw (← i, ← j) (same-write d o f g asked p q c (same-length d o f g _ _ refl b l))
+  values p n e q s = rw (q, is-read f e .0, is-read f e .1, e, s)
+
+  confirms : (p : ℕ) → writing f ≡ true → asked ≡ At p → lengthOf f (rowAt p .2) ≡ rowAt p .2
+      → Takes d p (cutTo (rowAt p .2) (dataOf f)) → due d o f ≡ confirmation (key (rowAt p)) (cutTo (rowAt p .2) (dataOf f))
+  unfolding due
+  confirms p e q l t =
+      let free = taken d (rowAt p) (cutTo (rowAt p .2) (dataOf f)) (t .unrefused) in
+      rw (q, is-write f e .0, is-write f e .1, e, free .0, free .1, t .writable, l, le-ltb (rowAt p .2) (rowAt p .2) (omega arith))
+
+  reserved : (g : List ℕ) → Alike f g → due d o f ≡ due d o g
+  unfolding due
+  reserved g l = rw (← l .indices, ← l .subs) (same-due d o f g l asked _ _ refl refl)
 
   pub laws : Laws d o f
   laws =
@@ -117,9 +142,11 @@ module _ (d : Device) (o : Bool) (f : List ℕ) where
         told = told d o f;
         replied = replied d o f;
         repeated = repeated;
+        values = values;
+        confirms = confirms;
+        unused-confirming = unused-confirming;
         unused = unused;
         unaltered = unaltered-by d o f (due d o f);
         valid = valid-by d o f asked (due d o f) (told d o f);
-        reserved-read = reserved-read;
-        reserved-write = reserved-write;
+        reserved = reserved;
       }

@@ -7,7 +7,7 @@ use mathlib.Core.Bool.{Bool, true, false, not, _&&_, _||_, cond}
 use mathlib.Core.List.{List, map}
 use lib.Dec.{eqb, ltb}
 use lib.ListN.{length, getD, replicate, getD-replicate, List·getD-map}
-use borrow.Author.Tests.{eqb-true, not-true, not-false}
+use borrow.Author.Tests.{eqb-true, ltb-false}
 use Rattle.cases.proofs.Cases.{by, true-false, both}
 use Rattle.dictionary.specs.declared.Device.{Device}
 use Rattle.dictionary.specs.declared.table.Row.{Row}
@@ -40,6 +40,10 @@ holds false b d e = true-false (sym d)
 fails : (w b : Bool) → w ≡ true → (w && b) ≡ false → b ≡ false
 fails true b d e = e
 fails false b d e = true-false (sym d)
+
+-- neither longer nor shorter
+same : (m n : ℕ) → ltb n m ≡ false → ltb m n ≡ false → m ≡ n
+same m n a b = let p = ltb-false n m a in let q = ltb-false m n b in omega arith
 
 is-number : (x : Shown) → isBlank x ≡ false → x ≡ Number (numberIn x)
 is-number Blank e = true-false e
@@ -92,20 +96,22 @@ module _ (d : Device) (o : Bool) (f : List ℕ) where
       by P (aborting f) (λ _. tt) (λ _.
       by P (not (reading f) && not (writing f)) (λ _. tt) (λ either.
       by P (writing f && not (r .3)) (λ _. tt) (λ rw.
-      by P (writing f && ltb (r .2) (lengthOf f (r .2))) (λ _. tt) (λ _.
-      by P (writing f && ltb (lengthOf f (r .2)) (r .2)) (λ _. tt) (λ _.
+      by P (writing f && ltb (r .2) (lengthOf f (r .2))) (λ _. tt) (λ long.
+      by P (writing f && ltb (lengthOf f (r .2)) (r .2)) (λ _. tt) (λ short.
       by P (writing f && not a && isSignature (r .4)) (λ _. tt) (λ _.
       by P (writing f && not a) (λ _. tt) (λ accepted.
       by P (writing f && barred d k v) (λ _. tt) (λ free.
       by P (reading f && isBlank s) (λ _. tt) (λ full.
       by P (reading f)
-      (λ read. record { place = p; stands = h; found = refl; its-width = refl; shown = is-number s (fails (reading f) (isBlank s) read full) })
+      (λ read. record { asks = read; place = p; stands = h; found = refl; its-width = refl; shown = is-number s (fails (reading f) (isBlank s) read full) })
       (λ no.
       let w = write (reading f) (writing f) either no in
       record {
+        asks = w;
         place = p;
         found = refl;
         key = refl;
+        its-length = same (lengthOf f (r .2)) (r .2) (fails (writing f) _ w long) (fails (writing f) _ w short);
         its-value = refl;
         takes = record {
           stands = h;

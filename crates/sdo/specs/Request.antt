@@ -28,8 +28,11 @@ dataOf f = number (byte f 4 ∷ byte f 5 ∷ byte f 6 ∷ byte f 7 ∷ [])
 abbrev pub top : List ℕ → ℕ
 top f = byte f 0 / 32
 
+abbrev pub isAbort : ℕ → Bool
+isAbort b = eqb (b / 32) 4
+
 abbrev pub aborting : List ℕ → Bool
-aborting f = eqb (top f) 4
+aborting f = isAbort (byte f 0)
 
 abbrev pub reading : List ℕ → Bool
 reading f = eqb (top f) 2

@@ -14,20 +14,16 @@ const TOO_LONG: u32 = 0x0607_0012;
 
 const TOO_SHORT: u32 = 0x0607_0013;
 
-// The abort code for the length, 0 for none.
-fn length_code(length: u8, width: u8) -> u32
-    ensures { λ r. ⌜ r ≡ lengthCode length width ⌝ }
+pub fn to_row(device: Device, bytes: Bytes, length: u8, content: u32, row: Row) -> Served
+    ensures { λ r. ⌜ r ≡ rowReply device bytes length content row ⌝ }
 {
-    if length == 0 {
-        return 0;
+    let width = row.2;
+    let value = cut(content, width);
+    let code = code(device, length, value, row);
+    if code != 0 {
+        return reply::abort(bytes, code);
     }
-    if width < length {
-        return TOO_LONG;
-    }
-    if length < width {
-        return TOO_SHORT;
-    }
-    0
+    reply::confirm(bytes, dictionary::table::key(row), value)
 }
 
 // Bytes past the entry's length are ignored.
@@ -48,25 +44,29 @@ fn code(device: Device, length: u8, value: u32, row: Row) -> u32
     ensures { λ r. ⌜ r ≡ writeCode device length value row ⌝ }
 {
     let rw = row.3;
-    if rw {
-        let width = row.2;
-        let code = length_code(length, width);
-        if code != 0 {
-            return code;
-        }
-        return dictionary::accept::refusal(device, row, value);
+    if !rw {
+        return READ_ONLY;
     }
-    READ_ONLY
+    let width = row.2;
+    let code = length_code(length, width);
+    if code != 0 {
+        return code;
+    }
+    dictionary::accept::refusal(device, row, value)
 }
 
-pub fn to_row(device: Device, bytes: Bytes, length: u8, content: u32, row: Row) -> Served
-    ensures { λ r. ⌜ r ≡ rowReply device bytes length content row ⌝ }
+// The abort code for the length, 0 for none.
+fn length_code(length: u8, width: u8) -> u32
+    ensures { λ r. ⌜ r ≡ lengthCode length width ⌝ }
 {
-    let width = row.2;
-    let value = cut(content, width);
-    let code = code(device, length, value, row);
-    if code != 0 {
-        return reply::abort(bytes, code);
+    if length == 0 {
+        return 0;
     }
-    reply::confirm(bytes, dictionary::table::key(row), value)
+    if width < length {
+        return TOO_LONG;
+    }
+    if length < width {
+        return TOO_SHORT;
+    }
+    0
 }

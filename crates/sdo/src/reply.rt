@@ -29,22 +29,6 @@ const READ_4_BYTES: u8 = 0x43;
 
 const NO_DATA: u32 = 0x0800_0024;
 
-fn framed(first: u8, request: Bytes, content: u32) -> Bytes
-    ensures { λ r. ⌜ r ≡ framedBy first request content ⌝ }
-{
-    let low = can::long_bytes(content);
-    [
-        first,
-        request[1],
-        request[2],
-        request[3],
-        low[0],
-        low[1],
-        low[2],
-        low[3],
-    ]
-}
-
 pub fn none() -> Served
     ensures { λ r. ⌜ r ≡ nothing ⌝ }
 {
@@ -74,6 +58,19 @@ pub fn confirm(request: Bytes, key: u32, value: u32) -> Served
     }
 }
 
+pub fn shown(request: Bytes, width: u8, entry: Shown) -> Served
+    ensures { λ r. ⌜ r ≡ shownReply request width entry ⌝ }
+{
+    let Shown::Number(number) = entry else {
+        return abort(request, NO_DATA);
+    };
+    let bytes = framed(command_for(width), request, number);
+    Served {
+        bytes: bytes,
+        effect: Effect::Reply,
+    }
+}
+
 fn command_for(width: u8) -> u8
     ensures { λ r. ⌜ r ≡ command width ⌝ }
 {
@@ -86,15 +83,18 @@ fn command_for(width: u8) -> u8
     READ_4_BYTES
 }
 
-pub fn shown(request: Bytes, width: u8, entry: Shown) -> Served
-    ensures { λ r. ⌜ r ≡ shownReply request width entry ⌝ }
+fn framed(first: u8, request: Bytes, content: u32) -> Bytes
+    ensures { λ r. ⌜ r ≡ framedBy first request content ⌝ }
 {
-    let Shown::Number(number) = entry else {
-        return abort(request, NO_DATA);
-    };
-    let bytes = framed(command_for(width), request, number);
-    Served {
-        bytes: bytes,
-        effect: Effect::Reply,
-    }
+    let low = can::long_bytes(content);
+    [
+        first,
+        request[1],
+        request[2],
+        request[3],
+        low[0],
+        low[1],
+        low[2],
+        low[3],
+    ]
 }

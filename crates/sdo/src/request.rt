@@ -1,8 +1,6 @@
 //! A request taken apart.
 ghost use mathlib.Core.Path.{_≡_};
-ghost use lib.Dec.{eqb};
-ghost use Prim.Native.Nat.{_/_};
-ghost use Rattle.sdo.specs.Request.{top, indexOf, dataOf, saidLength, taken};
+ghost use Rattle.sdo.specs.Request.{isAbort, indexOf, dataOf, saidLength, taken};
 use can::Bytes;
 
 // A read or a write. `length` is 0 where the request leaves it to the entry.
@@ -33,31 +31,9 @@ const WRITE: u8 = 1;
 const ABORT: u8 = 4;
 
 pub fn is_abort(command: u8) -> bool
-    ensures { λ r. ⌜ r ≡ eqb (command / 32) 4 ⌝ }
+    ensures { λ r. ⌜ r ≡ isAbort command ⌝ }
 {
     command / 32 == ABORT
-}
-
-fn index_of(bytes: Bytes) -> u16
-    ensures { λ r. ⌜ r ≡ indexOf bytes ⌝ }
-{
-    can::word(bytes[1], bytes[2])
-}
-
-fn data_of(bytes: Bytes) -> u32
-    ensures { λ r. ⌜ r ≡ dataOf bytes ⌝ }
-{
-    can::long(bytes[4], bytes[5], bytes[6], bytes[7])
-}
-
-fn length_of(command: u8) -> u8
-    ensures { λ r. ⌜ r ≡ saidLength command ⌝ }
-{
-    if command % 2 == 1 {
-        4 - command / 4 % 4
-    } else {
-        0
-    }
 }
 
 pub fn taken_apart(bytes: Bytes) -> Request
@@ -73,9 +49,31 @@ pub fn taken_apart(bytes: Bytes) -> Request
         return Request::Asked(Ask::Write {
             index,
             sub,
-            length: length_of(command),
+            length: said_length(command),
             content: data_of(bytes),
         });
     }
     Request::Reason
+}
+
+fn index_of(bytes: Bytes) -> u16
+    ensures { λ r. ⌜ r ≡ indexOf bytes ⌝ }
+{
+    can::word(bytes[1], bytes[2])
+}
+
+fn said_length(command: u8) -> u8
+    ensures { λ r. ⌜ r ≡ saidLength command ⌝ }
+{
+    if command % 2 == 1 {
+        4 - command / 4 % 4
+    } else {
+        0
+    }
+}
+
+fn data_of(bytes: Bytes) -> u32
+    ensures { λ r. ⌜ r ≡ dataOf bytes ⌝ }
+{
+    can::long(bytes[4], bytes[5], bytes[6], bytes[7])
 }

@@ -16,14 +16,14 @@ array-read-sub c = search needs
 returns : tie.Need-returns
 returns c = rw (c .if1 .taken, c .before .index-of .ensures)
 
-length-of-requires : tie.Need-length-of-requires
-length-of-requires c κs = search needs
+said-length-requires : tie.Need-said-length-requires
+said-length-requires c κs = search needs
 
 data-of-requires : tie.Need-data-of-requires
 data-of-requires c κs = search needs
 
 returns-2 : tie.Need-returns-2
-returns-2 c = rw (ne-eqb _ _ (c .before .before .before .if1 .left), c .before .before .if2 .taken, c .before .before .before .before .index-of .ensures, c .before .length-of .ensures, c .data-of .ensures)
+returns-2 c = rw (ne-eqb _ _ (c .before .before .before .if1 .left), c .before .before .if2 .taken, c .before .before .before .before .index-of .ensures, c .before .said-length .ensures, c .data-of .ensures)
 
 returns-3 : tie.Need-returns-3
 returns-3 c = rw (ne-eqb _ _ (c .before .if1 .left), c .if2 .left)
@@ -36,7 +36,7 @@ taken-apart-spec =
     index-of-requires
     array-read-sub
     returns
-    length-of-requires
+    said-length-requires
     data-of-requires
     returns-2
     returns-3)
