@@ -10,7 +10,6 @@ use lib.ListN.{getD}
 use borrow.Author.Tests.{eqb-true, ne-eqb, le-ltb}
 use Rattle.cases.proofs.Cases.{true-false}
 use Rattle.dictionary.specs.declared.Device.{Device}
-use Rattle.dictionary.specs.declared.table.Row.{Row}
 use Rattle.dictionary.specs.declared.table.Found.{Found}
 use Rattle.dictionary.specs.declared.table.Found.the-variants.{At, NoSubIndex, NoIndex}
 use Rattle.dictionary.specs.declared.read.Shown.{Shown}
@@ -21,7 +20,7 @@ use Rattle.dictionary.specs.Accepted.{acceptsIn, isSignature, barred, refusal}
 use Rattle.sdo.specs.Request.{byte, indexOf, subOf, dataOf, aborting, reading, writing, taken}
 use Rattle.sdo.specs.Reply.{nothing, confirmed, refused, shownReply}
 use Rattle.sdo.specs.Service.{value, confirmation, abort, answer, isBlank, numberIn, lengthOf, cutTo, dueOf, due}
-use Rattle.sdo.specs.Steps.{lengthCode, writeCode, rowReply, replyTo}
+use Rattle.sdo.specs.Steps.{lengthCode, writeCode, replyTo}
 
 -- the code of a write by its six tests: rw, longer, shorter, accepted, signature, barred
 abbrev code : Bool → Bool → Bool → Bool → Bool → Bool → ℕ

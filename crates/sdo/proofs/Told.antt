@@ -1,14 +1,14 @@
 -- What a value and a confirmation tell: the tests of 01's list that failed before them.
-use Prim.Native.Nat.{ℕ, _%_, _^_, _≤_, _<_}
+use Prim.Native.Nat.{ℕ, _^_, _≤_, _<_}
 use native.Mathlib.Omega.{arith}
 use native.Mathlib.Nat.{mod-lt}
 use mathlib.Core.Path.{_≡_, refl, sym, ap, _∙_}
-use mathlib.Core.Bool.{Bool, true, false, not, _&&_, _||_, cond}
+use mathlib.Core.Bool.{Bool, true, false, not, _&&_, _||_}
 use mathlib.Core.List.{List, map}
 use lib.Dec.{eqb, ltb}
 use lib.ListN.{length, getD, replicate, getD-replicate, List·getD-map}
 use borrow.Author.Tests.{eqb-true, ltb-false}
-use Rattle.cases.proofs.Cases.{by, true-false, both}
+use Rattle.cases.proofs.Cases.{by, true-false}
 use Rattle.dictionary.specs.declared.Device.{Device}
 use Rattle.dictionary.specs.declared.table.Row.{Row}
 use Rattle.dictionary.specs.declared.table.Found.{Found}

@@ -5,7 +5,6 @@ use lib.ListN.{getD}
 use mathlib.Core.Bool.{Bool, _&&_, cond}
 use mathlib.Core.List.{List, [], _∷_}
 use Rattle.can.specs.Number.{number}
-use Rattle.sdo.specs.declared.request.Ask.{Ask}
 use Rattle.sdo.specs.declared.request.Ask.the-variants.{Read, Write}
 use Rattle.sdo.specs.declared.request.Request.{Request}
 use Rattle.sdo.specs.declared.request.Request.the-variants.{Asked, Reason}
