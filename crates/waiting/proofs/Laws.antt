@@ -1,10 +1,12 @@
--- `Laws` of specs/Laws.antt, for any number of kinds. Assumes nothing.
+-- `Laws` and `InTurn` of specs/Laws.antt. Assumes nothing.
 use Prim.Native.Nat.{ℕ}
-use Rattle.waiting.specs.Laws.{Laws}
+use Rattle.waiting.specs.Line.{order}
+use Rattle.waiting.specs.Laws.{Laws, InTurn}
 use Rattle.waiting.proofs.Room.{finds-room}
 use Rattle.waiting.proofs.Holds.{holds-none, holds-join, holds-withdraw, holds-taken, holds-first, holds-idle, holds-has, holds-waiting, holds-after}
-use Rattle.waiting.proofs.Order.{in-order}
+use Rattle.waiting.proofs.Order.{in-order, among-trans}
 use Rattle.waiting.proofs.After.{has-after}
+use Rattle.waiting.proofs.Due.{among-due, has-due, named-due, named-order, join-due}
 
 pub laws : (n : ℕ) → Laws n
 laws n =
@@ -21,4 +23,15 @@ laws n =
       holds = λ slot out into m h. holds-after slot out into m h;
       in-order = in-order;
       waits-after = has-after n;
+    }
+
+pub in-turn : InTurn
+in-turn =
+    record {
+      among = among-due;
+      exactly = has-due;
+      named = named-due;
+      all-named = named-order;
+      came-in-turn = λ slot due out ws u. among-trans (u .joined) (among-due due order);
+      one-by-one = join-due;
     }

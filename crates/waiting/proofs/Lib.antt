@@ -3,8 +3,8 @@ pub mod After
 pub mod Room
 pub mod Holds
 pub mod Order
-pub mod Laws
 pub mod Due
+pub mod Laws
 pub mod Slots
 pub mod Plain
 pub mod Worked

@@ -16,7 +16,7 @@ among-all : (ws : List ℕ) → Among ws ws
 among-all [] = end
 among-all (x ∷ xs) = keep (among-all xs)
 
-among-trans : {a b c : List ℕ} → Among a b → Among b c → Among a c
+pub among-trans : {a b c : List ℕ} → Among a b → Among b c → Among a c
 among-trans p end = p
 among-trans p (skip q) = skip (among-trans p q)
 among-trans (skip p) (keep q) = skip (among-trans p q)

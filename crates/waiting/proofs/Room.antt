@@ -36,7 +36,7 @@ kinds-join n k (x ∷ xs) pos top h =
     (λ e. (h .0, h .1, rw (has-join x k xs, ne-eqb k x (λ q. eqb-false x k e (sym q))) (h .2), kinds-join n k xs pos top (h .3)))
 
 -- The pigeonhole: without the greatest kind it is a line of kinds 1 to n - 1, and at most one shorter.
-pub without-top : (n : ℕ) (ws : List ℕ) → Kinds (suc n) ws → Kinds n (withdraw ws (suc n))
+without-top : (n : ℕ) (ws : List ℕ) → Kinds (suc n) ws → Kinds n (withdraw ws (suc n))
 without-top n [] h = tt
 without-top n (x ∷ xs) h =
     by (Kinds n) (eqb x (suc n))

@@ -14,7 +14,8 @@ use borrow.Author.Tests.{eqb-true, eqb-false}
 use Rattle.cases.proofs.Cases.{by, neither, test, true-false}
 use Rattle.waiting.specs.Line.{has, Kinds, join, withdraw, first}
 use Rattle.waiting.specs.Calls.{withdraws, joins}
-use Rattle.waiting.specs.Trace.{Machine, Sound, runs, slots, sent, LeavesBy, Leaves, Demand3, Recorded}
+use Rattle.waiting.specs.Trace.{Machine, Sound, runs, slots, sent, Withdrawn, LeavesBy, Leaves, Demand3, Recorded}
+use Rattle.waiting.proofs.After.{has-after}
 use Rattle.waiting.proofs.Room.{room}
 
 -- k waits at place p or before it
@@ -91,6 +92,10 @@ module _ {S I : Type 0} (M : Machine S I) where
     abbrev Then : S → List I → Type 0
     Then s is = (r : ℕ) → getD (M .line s) r 0 ≡ k → r < slots M is → LeavesBy M (suc r) k s is
 
+    gone : (i : I) (s : S) → M .Good s → has k (M .out s i) ≡ true → Withdrawn M k s i
+    gone i s g e =
+        (e, rw (sound .acts s i g, has-after n (M .slot i) (M .out s i) (M .into s i) (M .line s) k (sound .kinds s g), sound .apart s i k g e, e))
+
     -- k, at place q once the slot has sent: the call withdraws it, or it waits at q or before q after the call
     moves : (i : I) (is : List I) (s : S) (p q : ℕ) → M .Good s
         → Then (M .step s i) is
@@ -100,7 +105,7 @@ module _ {S I : Type 0} (M : Machine S I) where
         → LeavesBy M (suc p) k s (i ∷ is)
     moves i is s p q g ih h le lt =
         test (has k (M .out s i))
-        (λ e. record { before = []; call = i; rest = is; split = refl; early = omega arith; how = inr e })
+        (λ e. record { before = []; call = i; rest = is; split = refl; early = omega arith; how = inr (gone i s g e) })
         (λ e.
         let w : Within k q (withdraws (cond (M .slot i) (drop 1 (M .line s)) (M .line s)) (M .out s i)) = at-withdraws k pos (M .out s i) _ q e h in
         let v : getD (M .line (M .step s i)) (w .at) 0 ≡ k = rw (sound .acts s i g) (at-joins k pos (M .into s i) _ (w .at) (w .is)) in

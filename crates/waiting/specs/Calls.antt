@@ -1,6 +1,6 @@
 -- What a call does to the line: a slot sends the first; then, of any call, the kinds `out` are withdrawn and the kinds `into` join.
 -- `after` says it of the line, `afterIn` of the places that hold it.
-use Prim.Native.Nat.{ℕ, zero, suc, _<_, _≤_}
+use Prim.Native.Nat.{ℕ, _<_, _≤_}
 use mathlib.Core.Bool.{Bool, cond}
 use mathlib.Core.List.{List, [], _∷_}
 use lib.ListN.{drop}
@@ -11,7 +11,7 @@ abbrev pub withdraws : List ℕ → List ℕ → List ℕ
 withdraws ws [] = ws
 withdraws ws (k ∷ ks) = withdraws (withdraw ws k) ks
 
--- Several joining in one call join in the order given.
+-- the kinds of a list, one after another
 abbrev pub joins : List ℕ → List ℕ → List ℕ
 joins ws [] = ws
 joins ws (k ∷ ks) = joins (join ws k) ks
@@ -30,14 +30,14 @@ joinsIn l (k ∷ ks) = joinsIn (joinIn l k) ks
 abbrev pub afterIn : Bool → List ℕ → List ℕ → List ℕ → List ℕ
 afterIn slot out into l = joinsIn (withdrawsIn (cond slot (takenIn l) l) out) into
 
--- a kind where the test passes, and else none: `out` and `into` are made of these
+-- a kind where it is due, and else none
 abbrev pub ifDue : Bool → ℕ → List ℕ
 ifDue due k = cond due (k ∷ []) []
 
--- all kinds, from n down to 1: what a reset takes
-abbrev pub allKinds : ℕ → List ℕ
-allKinds zero = []
-allKinds (suc n) = suc n ∷ allKinds n
+-- those of a list that are due, in its order: `thoseDue due order` is what joins in a call
+abbrev pub thoseDue : (ℕ → Bool) → List ℕ → List ℕ
+thoseDue due [] = []
+thoseDue due (k ∷ ks) = cond (due k) (k ∷ thoseDue due ks) (thoseDue due ks)
 
 -- the kinds of a list are kinds 1 to n
 pub data Named (n : ℕ) : List ℕ → Type 0 where

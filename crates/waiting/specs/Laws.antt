@@ -1,14 +1,15 @@
 -- What holds of the waiting line after every call, for any number n of kinds: `Laws`.
 -- There is room, the places hold the line, the order is kept, and it is known who waits.
+-- What holds of those that are due in one call: `InTurn`. They join in the order given.
 use Prim.Native.Nat.{ℕ, _<_, _≤_}
 use mathlib.Core.Path.{_≡_}
 use mathlib.Core.Bool.{Bool, true, false, not, _&&_, _||_, cond}
 use mathlib.Core.List.{List, [], _∷_, _++_}
 use lib.Dec.{eqb}
 use lib.ListN.{length, drop}
-use Rattle.waiting.specs.Line.{has, Kinds, join, withdraw, first}
+use Rattle.waiting.specs.Line.{places, order, has, Kinds, join, withdraw, first}
 use Rattle.waiting.specs.Places.{pad, joinIn, withdrawIn, takenIn, waiting, Holds}
-use Rattle.waiting.specs.Calls.{after, afterIn, Named}
+use Rattle.waiting.specs.Calls.{after, joinsIn, afterIn, ifDue, thoseDue, Named}
 
 -- some of a list, in its order
 pub data Among : List ℕ → List ℕ → Type 0 where
@@ -43,8 +44,22 @@ pub record Laws (n : ℕ) : Type 0 where
   pub all : {l ws : List ℕ} → Holds n l ws → waiting l ≡ ws
   -- a call leaves a proper line, in the places too
   pub holds : {l ws : List ℕ} (slot : Bool) (out into : List ℕ) → Named n into → Holds n l ws → Holds n (afterIn slot out into l) (after slot out into ws)
-  -- the line is served in its order
+  -- those who waited and stay are in their order, and those who come stand behind them in theirs
   pub in-order : (slot : Bool) (out into ws : List ℕ) → InOrder slot out into ws
   -- a kind waits after a call exactly if it joined, or waited and was neither withdrawn nor sent
   pub waits-after : (slot : Bool) (out into ws : List ℕ) (k : ℕ) → Kinds n ws
       → has k (after slot out into ws) ≡ (has k into || (not (has k out) && (not (slot && eqb (first ws) k) && has k ws)))
+
+pub record InTurn : Type 0 where
+  -- they keep the list's order
+  pub among : (due : ℕ → Bool) (ks : List ℕ) → Among (thoseDue due ks) ks
+  -- all that are due, and no others
+  pub exactly : (due : ℕ → Bool) (ks : List ℕ) (k : ℕ) → has k (thoseDue due ks) ≡ (due k && has k ks)
+  -- they are kinds 1 to n where the list's are, and those of the order are
+  pub named : {n : ℕ} {ks : List ℕ} (due : ℕ → Bool) → Named n ks → Named n (thoseDue due ks)
+  pub all-named : Named places order
+  -- those who come in a call stand in the order just given
+  pub came-in-turn : (slot : Bool) (due : ℕ → Bool) (out ws : List ℕ) (u : InOrder slot out (thoseDue due order) ws) → Among (u .came) order
+  -- the first joins if it is due, then the others: the code's `join_if`, one after another
+  pub one-by-one : (due : ℕ → Bool) (l : List ℕ) (k : ℕ) (ks : List ℕ)
+      → joinsIn l (thoseDue due (k ∷ ks)) ≡ joinsIn (joinsIn l (ifDue (due k) k)) (thoseDue due ks)

@@ -26,6 +26,10 @@ tpdo1 = 4
 abbrev pub tpdo2 : ℕ
 tpdo2 = 5
 
+-- Several joining in one call join in the order just given.
+abbrev pub order : List ℕ
+order = emergency ∷ sdoReply ∷ heartbeat ∷ tpdo1 ∷ tpdo2 ∷ []
+
 -- whether a kind waits
 abbrev pub has : ℕ → List ℕ → Bool
 has k [] = false

@@ -4,26 +4,30 @@ use Prim.Native.Nat.{ℕ}
 use mathlib.Core.Path.{_≡_}
 use mathlib.Core.Bool.{Bool, true, false}
 use mathlib.Core.List.{List, [], _∷_}
-use Rattle.waiting.specs.Line.{places, emergency, sdoReply, heartbeat, tpdo1, tpdo2, Kinds}
+use Rattle.waiting.specs.Line.{places, emergency, sdoReply, heartbeat, tpdo1, tpdo2, has, Kinds}
 use Rattle.waiting.specs.Calls.{after, Named}
 use Rattle.waiting.specs.Worked.{allWait}
 use Rattle.waiting.specs.Trace.{Machine, sent, LeavesBy, Demand3}
 
+-- What a call withdraws does not join in it.
+abbrev pub Apart : List ℕ → List ℕ → Type 0
+Apart out into = (k : ℕ) → has k out ≡ true → has k into ≡ false
+
 pub data Call (n : ℕ) : Type 0 where
   slotCall : Call n
-  otherCall : (out into : List ℕ) → Named n into → Call n
+  otherCall : (out into : List ℕ) → Named n into → Apart out into → Call n
 
 abbrev pub isSlot : {n : ℕ} → Call n → Bool
 isSlot slotCall = true
-isSlot (otherCall out into m) = false
+isSlot (otherCall out into m a) = false
 
 abbrev pub outOf : {n : ℕ} → Call n → List ℕ
 outOf slotCall = []
-outOf (otherCall out into m) = out
+outOf (otherCall out into m a) = out
 
 abbrev pub intoOf : {n : ℕ} → Call n → List ℕ
 intoOf slotCall = []
-intoOf (otherCall out into m) = into
+intoOf (otherCall out into m a) = into
 
 abbrev pub plain : (n : ℕ) → Machine (List ℕ) (Call n)
 plain n =
@@ -39,13 +43,16 @@ plain n =
 abbrev pub BySlotN : Type 0
 BySlotN = (n : ℕ) → Demand3 (plain n) n
 
--- All wait, the emergency last. TPDO1 is withdrawn and joins again, and TPDO2 joins again once it is sent.
-abbrev pub calls : Named places (emergency ∷ tpdo1 ∷ []) → Named places (tpdo2 ∷ []) → List (Call places)
-calls m m′ =
-    otherCall (tpdo1 ∷ []) (emergency ∷ tpdo1 ∷ []) m ∷ slotCall ∷ slotCall ∷ otherCall [] (tpdo2 ∷ []) m′ ∷ slotCall ∷ slotCall ∷ slotCall ∷ []
+-- All wait, the emergency last. TPDO1 is withdrawn, and joins again in a later call, as does TPDO2 once it is sent.
+module _ (m : Named places (emergency ∷ [])) (a : Apart (tpdo1 ∷ []) (emergency ∷ [])) (m′ : Named places (tpdo1 ∷ tpdo2 ∷ [])) (a′ : Apart [] (tpdo1 ∷ tpdo2 ∷ [])) where
+  abbrev pub calls : List (Call places)
+  calls =
+      otherCall (tpdo1 ∷ []) (emergency ∷ []) m a ∷ slotCall ∷ slotCall ∷ otherCall [] (tpdo1 ∷ tpdo2 ∷ []) m′ a′ ∷ slotCall ∷ slotCall ∷ slotCall ∷ []
 
 pub record Example : Type 0 where
-  pub again : Named places (emergency ∷ tpdo1 ∷ [])
-  pub next : Named places (tpdo2 ∷ [])
-  pub leaves : LeavesBy (plain places) places emergency allWait (calls again next)
-  pub all-sent : sent (plain places) allWait (calls again next) ≡ tpdo2 ∷ heartbeat ∷ sdoReply ∷ emergency ∷ tpdo1 ∷ []
+  pub kept : Named places (emergency ∷ [])
+  pub other : Apart (tpdo1 ∷ []) (emergency ∷ [])
+  pub again : Named places (tpdo1 ∷ tpdo2 ∷ [])
+  pub none-out : Apart [] (tpdo1 ∷ tpdo2 ∷ [])
+  pub leaves : LeavesBy (plain places) places emergency allWait (calls kept other again none-out)
+  pub all-sent : sent (plain places) allWait (calls kept other again none-out) ≡ tpdo2 ∷ heartbeat ∷ sdoReply ∷ emergency ∷ tpdo1 ∷ []

@@ -2,12 +2,12 @@
 --     Machine, Sound     what a head must tell: its line, which of its calls are slots, and what each call does to the line
 --     runs               the head after a list of calls
 --     sent               what the slots of a list of calls sent, a kind for each slot in order, 0 for none
---     LeavesBy           a kind leaves by slot number b: sent by a slot, or withdrawn by a call
+--     LeavesBy           a kind leaves by slot number b: sent by a slot, or withdrawn by a call, after which it no longer waits
 --     Recorded           the same, by what the slots sent
 --     Leaves, Demand3    when a kind leaves, of every sound machine
 use Prim.Native.Nat.{ℕ, suc, _+_, _<_, _≤_}
 use mathlib.Core.Path.{_≡_}
-use mathlib.Core.Bool.{Bool, true, cond}
+use mathlib.Core.Bool.{Bool, true, false, cond}
 use mathlib.Core.List.{List, [], _∷_, _++_}
 use mathlib.Core.Logic.{_⊎_}
 use lib.ListN.{getD}
@@ -33,6 +33,8 @@ module _ {S I : Type 0} (M : Machine S I) where
     pub keeps : (s : S) (i : I) → M .Good s → M .Good (M .step s i)
     pub kinds : (s : S) → M .Good s → Kinds n (M .line s)
     pub acts : (s : S) (i : I) → M .Good s → M .line (M .step s i) ≡ after (M .slot i) (M .out s i) (M .into s i) (M .line s)
+    -- what a call withdraws does not join in the same call
+    pub apart : (s : S) (i : I) (k : ℕ) → M .Good s → has k (M .out s i) ≡ true → has k (M .into s i) ≡ false
 
   abbrev pub runs : S → List I → S
   runs s [] = s
@@ -46,6 +48,10 @@ module _ {S I : Type 0} (M : Machine S I) where
   sent s [] = []
   sent s (i ∷ is) = cond (M .slot i) (first (M .line s) ∷ sent (M .step s i) is) (sent (M .step s i) is)
 
+  -- The call withdraws k, which does not wait after it.
+  abbrev pub Withdrawn : ℕ → S → I → Type 0
+  Withdrawn k s i = (has k (M .out s i) ≡ true) × (has k (M .line (M .step s i)) ≡ false)
+
   -- Of the calls `is`, one with fewer than b slots before it is a slot that sends k, or withdraws k.
   pub record LeavesBy (b k : ℕ) (s : S) (is : List I) : Type 0 where
     pub before : List I
@@ -53,7 +59,7 @@ module _ {S I : Type 0} (M : Machine S I) where
     pub rest : List I
     pub split : is ≡ before ++ call ∷ rest
     pub early : slots before < b
-    pub how : ((M .slot call ≡ true) × (first (M .line (runs s before)) ≡ k)) ⊎ (has k (M .out (runs s before) call) ≡ true)
+    pub how : ((M .slot call ≡ true) × (first (M .line (runs s before)) ≡ k)) ⊎ Withdrawn k (runs s before) call
 
   -- The kind at place p, counted from 0, leaves by slot number p + 1.
   abbrev pub Leaves : Type 0
@@ -67,4 +73,4 @@ module _ {S I : Type 0} (M : Machine S I) where
   abbrev pub Recorded : ℕ → ℕ → S → List I → Type 0
   Recorded b k s is =
       ((j : ℕ) × (j < b) × (getD (sent s is) j 0 ≡ k))
-      ⊎ ((before : List I) × (call : I) × (rest : List I) × (is ≡ before ++ call ∷ rest) × (has k (M .out (runs s before) call) ≡ true))
+      ⊎ ((before : List I) × (call : I) × (rest : List I) × (is ≡ before ++ call ∷ rest) × Withdrawn k (runs s before) call)
