@@ -1,5 +1,5 @@
--- The columns of the table at a place.
-use Prim.Native.Nat.{ℕ, _<_}
+-- The columns of the table at a place. By computation, and by the laws of lists. Assumes nothing.
+use Prim.Native.Nat.{ℕ}
 use mathlib.Core.Path.{_≡_, refl, sym, _∙_, ap}
 use mathlib.Core.Bool.{Bool}
 use mathlib.Core.List.{List, map}
@@ -8,6 +8,11 @@ use Rattle.dictionary.specs.declared.Device.{Device}
 use Rattle.dictionary.specs.declared.table.Row.{Row}
 use Rattle.dictionary.specs.Table.{Entry, entries, table, noRow, keyOf}
 use Rattle.dictionary.specs.Reads.{noEntry, numbers, blanks}
+
+-- Columns that are equal are equal at each place.
+pub at-place : {A B : Type 0} (f g : A → B) (l : List A) (a : A) (p : ℕ) → f a ≡ g a → map f l ≡ map g l → f (getD l p a) ≡ g (getD l p a)
+at-place f g l a p e c =
+    sym (List·getD-map f l p a) ∙ ap (λ x. getD (map f l) p x) e ∙ ap (λ k. getD k p (g a)) c ∙ List·getD-map g l p a
 
 pub rows-are : length table ≡ 44
 unfolding table entries
@@ -29,10 +34,7 @@ unfolding entries
 columns d = refl
 
 blank-at : (d : Device) (p : ℕ) → by-key d (getD entries p noEntry) ≡ getD entries p noEntry .blank d
-blank-at d p =
-    sym (List·getD-map (by-key d) entries p noEntry)
-    ∙ ap (λ (l : List Bool). getD l p (by-key d noEntry)) (columns d)
-    ∙ List·getD-map (λ e. e .blank d) entries p noEntry
+blank-at d p = at-place (by-key d) (λ e. e .blank d) entries noEntry p refl (columns d)
 
 pub blank-of : (d : Device) (p k : ℕ) (r : Row) → r ≡ getD table p noRow → k ≡ keyOf (r .0) (r .1)
     → blanks k (d .errors) (d .reading .good) ≡ getD entries p noEntry .blank d

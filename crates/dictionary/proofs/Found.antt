@@ -13,7 +13,6 @@ use Rattle.dictionary.specs.declared.table.Found.{Found}
 use Rattle.dictionary.specs.declared.table.Found.the-variants.{At, NoSubIndex, NoIndex}
 use Rattle.dictionary.specs.Table.{entries, table, noRow, noSub, lookupFrom, lookup}
 use Rattle.dictionary.specs.Laws.{Stands, Finds}
-use Rattle.dictionary.proofs.Columns.{rows-are}
 
 -- the row at k among l has the index i
 abbrev Has : List Row → ℕ → ℕ → Type 0
@@ -65,7 +64,7 @@ place-at p (suc n) (suc k) x h = place-at (suc p) n k x (omega arith) ∙ ap At 
 found : Row → Found
 found r = lookup (r .0) (r .1)
 
-each-found : map found table ≡ places 0 44
+each-found : map found table ≡ places 0 (length table)
 unfolding found table entries lookup
 each-found = refl
 
@@ -73,7 +72,7 @@ found-at : (p : ℕ) → p < length table → found (getD table p noRow) ≡ At 
 found-at p h =
     sym (List·getD-map found table p noRow)
     ∙ ap (λ (l : List Found). getD l p (found noRow)) each-found
-    ∙ place-at 0 44 p (found noRow) (rw rows-are at h)
+    ∙ place-at 0 (length table) p (found noRow) h
     ∙ ap At (zero-add p)
 
 only-sub : (f : Found) → ((p : ℕ) → f ≡ At p → ⊥) → (f ≡ NoIndex → ⊥) → f ≡ NoSubIndex

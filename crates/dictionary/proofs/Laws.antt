@@ -1,12 +1,15 @@
 -- The laws of specs/Laws, collected; the order of the keys and the second index by computation. Assumes nothing.
 use Prim.Native.Nat.{ℕ}
-use mathlib.Core.Path.{_≡_, refl}
+use mathlib.Core.Path.{_≡_, refl, _∙_, ap}
 use mathlib.Core.Bool.{Bool, true}
 use mathlib.Core.List.{map}
+use mathlib.Core.Option.{some}
 use Rattle.dictionary.specs.declared.Device.{Device}
+use Rattle.dictionary.specs.declared.table.Found.the-variants.{At}
+use Rattle.dictionary.specs.declared.read.Shown.{Shown}
 use Rattle.dictionary.specs.declared.read.Shown.the-variants.{Number}
 use Rattle.dictionary.specs.Table.{entries, table, lookup, key}
-use Rattle.dictionary.specs.Reads.{shownAt}
+use Rattle.dictionary.specs.Reads.{shownAt, readOf}
 use Rattle.dictionary.specs.Writes.{written}
 use Rattle.dictionary.specs.Laws.{Shows, risesFrom, Laws}
 use Rattle.dictionary.proofs.Factory.{factory-valid}
@@ -19,9 +22,13 @@ rising : risesFrom 0 (map key table) ≡ true
 unfolding table entries
 rising = refl
 
+-- what stands at the place that is found
+shows : (d : Device) (o : Bool) (i j : ℕ) {p : ℕ} {s : Shown} → lookup i j ≡ At p → shownAt d o p ≡ s → Shows d o i j s
+shows d o i j e f = ap (readOf d o) e ∙ ap some f
+
 second-reads : (d : Device) (o : Bool) → let event = Number (d .settings .communication .pdo1 .event) in Shows d o 0x1800 5 event × Shows d o 0x6200 0 event
 unfolding table entries lookup shownAt
-second-reads d o = ((23, refl, refl), (38, refl, refl))
+second-reads d o = (shows d o 0x1800 5 refl refl, shows d o 0x6200 0 refl refl)
 
 second-writes : (d : Device) (v : ℕ) → written d 0x6200_00 v ≡ written d 0x1800_05 v
 unfolding written

@@ -1,47 +1,53 @@
--- What a write leaves is what its entry then reads: one fact for each rw entry of the table, in its order. Assumes nothing.
+-- What a write leaves is what its entry then reads: for the whole table by computation; 1003-0 accepts only 0, which it reads. Assumes nothing.
 use Prim.Native.Nat.{ℕ}
-use mathlib.Core.Path.{_≡_, refl, sym}
+use mathlib.Core.Path.{_≡_, refl, sym, _∙_, ap}
 use mathlib.Core.Bool.{Bool, true, cond}
-use lib.ListN.{getD, length-map}
+use mathlib.Core.List.{map}
+use lib.Dec.{eqb}
+use lib.ListN.{getD}
 use borrow.Author.Tests.{eqb-true}
+use Rattle.cases.proofs.Cases.{by}
 use Rattle.dictionary.specs.declared.Device.{Device}
-use Rattle.dictionary.specs.Table.{Entry, entries, table, rowAt, key}
+use Rattle.dictionary.specs.declared.table.Row.{Row}
+use Rattle.dictionary.specs.Table.{Entry, entries, table, noRow, rowAt, key}
 use Rattle.dictionary.specs.Accepted.{acceptsIn, isSignature}
 use Rattle.dictionary.specs.Reads.{noEntry}
 use Rattle.dictionary.specs.Writes.{written}
 use Rattle.dictionary.specs.Laws.{Takes}
 use Rattle.dictionary.proofs.Accepted.{taken}
-use Rattle.dictionary.proofs.Columns.{row-of}
-use Rattle.cases.proofs.Cases.{Each, _▸_, end}
-use Rattle.dictionary.proofs.Those.{those, at-each}
+use Rattle.dictionary.proofs.Columns.{at-place, row-of}
 
-ReadsBack : Entry → Type 0
-ReadsBack e = (d : Device) (o : Bool) (v : ℕ) → acceptsIn d (e .row) v ≡ true
-    → e .number (written d (key (e .row)) v) o ≡ cond (isSignature (e .row .4)) 1 v
+abbrev isCount : Row → Bool
+isCount r = eqb (key r) 0x1003_00
 
-each : Each ReadsBack (those (λ e. e .row .3) entries)
-unfolding ReadsBack entries written
-each =
-    (λ d o v a. sym (eqb-true v 0 a))
-    ▸ (λ d o v a. refl)
-    ▸ (λ d o v a. refl)
-    ▸ (λ d o v a. refl)
-    ▸ (λ d o v a. refl)
-    ▸ (λ d o v a. refl)
-    ▸ (λ d o v a. refl)
-    ▸ (λ d o v a. refl)
-    ▸ (λ d o v a. refl)
-    ▸ (λ d o v a. refl)
-    ▸ (λ d o v a. refl)
-    ▸ (λ d o v a. refl)
-    ▸ (λ d o v a. refl)
-    ▸ (λ d o v a. refl)
-    ▸ (λ d o v a. refl)
-    ▸ (λ d o v a. refl)
-    ▸ (λ d o v a. refl)
-    ▸ end
+module _ (d : Device) (o : Bool) (p v : ℕ) where
+  -- what an rw entry reads after the write, and what is due; 0 for another
+  abbrev read : Entry → ℕ
+  read e = cond (e .row .3) (e .number (written d (key (e .row)) v) o) 0
 
-pub reads-back : (d : Device) (o : Bool) (p v : ℕ) → Takes d p v → getD entries p noEntry .number (written d (key (rowAt p)) v) o ≡ cond (isSignature (rowAt p .4)) 1 v
-unfolding ReadsBack table
-reads-back d o p v t =
-    rw (row-of p) (at-each ReadsBack (λ e. e .row .3) entries noEntry p each (rw length-map at (t .stands)) (rw (row-of p) at (t .writable)) d o v (rw (row-of p) at (taken d (rowAt p) v (t .unrefused) .0)))
+  abbrev due : Entry → ℕ
+  due e = cond (e .row .3) (cond (isSignature (e .row .4)) 1 (cond (isCount (e .row)) 0 v)) 0
+
+  columns : map read entries ≡ map due entries
+  unfolding entries written
+  columns = refl
+
+  -- whether 1003-0 accepts v
+  abbrev empties : Row → Bool
+  empties r = cond (isCount r) (acceptsIn d r v) (eqb v 0)
+
+  only-0 : map empties table ≡ map (λ r. eqb v 0) table
+  unfolding table entries
+  only-0 = refl
+
+  emptied : Takes d p v → isCount (rowAt p) ≡ true → v ≡ 0
+  emptied t e =
+      let accepted = rw e at (at-place empties (λ r. eqb v 0) table noRow p refl only-0) in
+      eqb-true v 0 (sym accepted ∙ taken d (rowAt p) v (t .unrefused) .0)
+
+  pub reads-back : Takes d p v → getD entries p noEntry .number (written d (key (rowAt p)) v) o ≡ cond (isSignature (rowAt p .4)) 1 v
+  reads-back t =
+      let s = isSignature (rowAt p .4) in
+      let writable = rw (row-of p) at (t .writable) in
+      rw (row-of p) (rw writable at (at-place read due entries noEntry p refl columns))
+      ∙ by (λ n. cond s 1 n ≡ cond s 1 v) (isCount (rowAt p)) (λ e. ap (λ n. cond s 1 n) (sym (emptied t e))) (λ _. refl)

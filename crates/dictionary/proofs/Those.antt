@@ -5,7 +5,7 @@ use mathlib.Core.Path.{_≡_, sym}
 use mathlib.Core.Bool.{Bool, true, false, cond}
 use mathlib.Core.List.{List, [], _∷_}
 use lib.ListN.{length, getD}
-use Rattle.cases.proofs.Cases.{true-false, Each, _▸_, end}
+use Rattle.cases.proofs.Cases.{true-false, Each, _▸_}
 
 -- those that pass a test
 abbrev pub those : {A : Type 0} → (A → Bool) → List A → List A

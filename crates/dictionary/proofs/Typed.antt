@@ -7,7 +7,7 @@ use lib.Dec.{T, leb, ltb, lit<}
 use lib.IntN.{ℤ, pos, negsuc, natAbs}
 use lib.ListN.{length, getD, length-map}
 use borrow.Author.Tests.{leb-true}
-use Rattle.cases.proofs.Cases.{by, both, either}
+use Rattle.cases.proofs.Cases.{by, both, either, Each, _▸_, end}
 use Rattle.can.specs.Signed.{twos}
 use Rattle.position.specs.declared.Profile.{Profile}
 use Rattle.position.specs.Position.{position}
@@ -19,7 +19,6 @@ use Rattle.dictionary.specs.Accepted.{within, transmissionType}
 use Rattle.dictionary.specs.Reads.{noEntry}
 use Rattle.dictionary.specs.Valid.{ValidDevice}
 use Rattle.dictionary.proofs.Columns.{row-of}
-use Rattle.cases.proofs.Cases.{Each, _▸_, end}
 use Rattle.dictionary.proofs.Those.{those, at-each}
 
 at-most : {n b c : ℕ} → n ≤ b → T (ltb b c) → n < c

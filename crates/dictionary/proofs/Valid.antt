@@ -1,11 +1,11 @@
 -- An accepted write keeps a device valid: one fact for each rw row of the table, in its order. Assumes nothing.
-use Prim.Native.Nat.{ℕ, suc, _+_, _/_, _%_, _^_, _≤_, _<_}
+use Prim.Native.Nat.{ℕ, suc, _/_, _%_, _^_, _≤_, _<_}
 use native.Mathlib.Omega.{arith}
 use mathlib.Core.Path.{_≡_, sym, _∙_}
 use mathlib.Core.Bool.{true, false, not, _&&_, _||_}
 use lib.Dec.{eqb, leb}
 use borrow.Author.Tests.{ltb-true, leb-true, eqb-true, eq-eqb, not-false}
-use Rattle.cases.proofs.Cases.{true-false, by, both, neither}
+use Rattle.cases.proofs.Cases.{true-false, by, both, neither, Each, _▸_, end}
 use Rattle.position.specs.declared.Profile.{Profile}
 use Rattle.position.specs.Position.{bit, scalingBit}
 use Rattle.position.specs.Profile.{fullRange, scaledRange, ValidProfile}
@@ -17,12 +17,11 @@ use Rattle.dictionary.specs.declared.Device.{Device}
 use Rattle.dictionary.specs.declared.table.Row.{Row}
 use Rattle.dictionary.specs.Settings.{pdo}
 use Rattle.dictionary.specs.Table.{missing, entries, table, noRow, rowAt, key}
-use Rattle.dictionary.specs.Accepted.{within, pdoIdentifier, transmissionType, pdoBarred, accepts, acceptsIn}
+use Rattle.dictionary.specs.Accepted.{within, emergencyIdentifier, pdoIdentifier, transmissionType, operatingParameters, pdoBarred, accepts, acceptsIn}
 use Rattle.dictionary.specs.Writes.{rangeFor, rescaledTo, written, Fits}
 use Rattle.dictionary.specs.Valid.{ValidPdo, ValidCommunication, ValidSettings, ValidDevice}
 use Rattle.dictionary.specs.Laws.{Takes}
 use Rattle.dictionary.proofs.Accepted.{taken}
-use Rattle.cases.proofs.Cases.{Each, _▸_, end}
 use Rattle.dictionary.proofs.Those.{those, at-each}
 use Rattle.dictionary.proofs.Factory.{factory-valid}
 
@@ -53,7 +52,7 @@ module _ {n : ℕ} {s : Settings} (h : ValidSettings n s) where
   k : ValidCommunication n c
   k = h .communication
 
-  emergency-is : (v : ℕ) → eqb (v % 0x80000000) (0x80 + n) ≡ true → v < 256 ^ 4 → ValidSettings n (settings v (c .inhibit) (c .heartbeat) (c .pdo1) (c .pdo2) (s .profile))
+  emergency-is : (v : ℕ) → emergencyIdentifier n v ≡ true → v < 256 ^ 4 → ValidSettings n (settings v (c .inhibit) (c .heartbeat) (c .pdo1) (c .pdo2) (s .profile))
   emergency-is v a l =
       record {
         communication = record { emergency = a; emergency-fits = up-to l; inhibit = k .inhibit; heartbeat = k .heartbeat; pdo1 = k .pdo1; pdo2 = k .pdo2 };
@@ -84,7 +83,7 @@ rescaled-is o t s e b l m f g i j =
     record { bits-low = e; bits-high = b; low = l; high = m; full = f; scaled = g; preset = omega arith; step-low = i; step-high = j; offset = omega arith }
 
 module _ {p : Profile} (v : ℕ) (h : ValidProfile p) where
-  operating-is : (eqb (v % 4) 0 && eqb (v / 16) 0) ≡ true → ValidProfile (rescaledTo v (rangeFor v) (p .step))
+  operating-is : operatingParameters v ≡ true → ValidProfile (rescaledTo v (rangeFor v) (p .step))
   operating-is a =
       let bits = both (eqb (v % 4) 0) (eqb (v / 16) 0) a in
       let high = eqb-true (v / 16) 0 (bits .1) in

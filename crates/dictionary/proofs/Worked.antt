@@ -1,7 +1,10 @@
 -- 01's own numbers, by computation; that `ready` is valid, by the laws of the factory settings and of accepted writes. Assumes nothing.
+use Prim.Native.Nat.{ℕ}
 use native.Mathlib.Omega.{arith}
 use mathlib.Core.Path.{refl}
 use Rattle.cases.proofs.Cases.{true-false}
+use Rattle.dictionary.specs.declared.table.Found.{Found}
+use Rattle.dictionary.specs.declared.table.Found.the-variants.{At, NoSubIndex, NoIndex}
 use Rattle.dictionary.specs.Table.{entries, table, lookup}
 use Rattle.dictionary.specs.Accepted.{refusal}
 use Rattle.dictionary.specs.Reads.{shownAt}
@@ -24,46 +27,53 @@ at-valid =
       saved = factory-valid;
     }
 
+-- where the entry that is found stands
+placeOf : Found → ℕ
+placeOf (At p) = p
+placeOf NoSubIndex = 0
+placeOf NoIndex = 0
+
 ready-valid : ValidDevice ready
-unfolding entries table refusal written
+unfolding entries table lookup placeOf refusal written
 ready-valid =
-    let one = laws .written-valid (at 100) 21 0x80000181 (record { stands = omega arith; writable = refl; long = omega arith; unrefused = refl }) at-valid in
-    let two = laws .written-valid _ 25 0x80000281 (record { stands = omega arith; writable = refl; long = omega arith; unrefused = refl }) one in
-    laws .written-valid _ 32 4 (record { stands = omega arith; writable = refl; long = omega arith; unrefused = refl }) two
+    let one = laws .written-valid (at 100) (placeOf (lookup 0x1800 1)) 0x80000181 (record { stands = omega arith; writable = refl; long = omega arith; unrefused = refl }) at-valid in
+    let two = laws .written-valid _ (placeOf (lookup 0x1801 1)) 0x80000281 (record { stands = omega arith; writable = refl; long = omega arith; unrefused = refl }) one in
+    laws .written-valid _ (placeOf (lookup 0x6000 0)) 4 (record { stands = omega arith; writable = refl; long = omega arith; unrefused = refl }) two
 
 pub worked : Worked
 unfolding entries table lookup refusal shownAt written
 worked =
     record {
-      type = (0, refl, refl);
-      p1 = (40, refl, refl);
-      p2 = (38, refl, refl);
-      p5 = (32, refl, refl);
-      p6 = (35, refl, refl);
-      p7 = (35, refl, refl);
-      p8 = (35, refl, refl);
-      p9 = ((35, refl, refl), (35, refl, refl));
-      p10 = ((43, refl, refl), (35, refl, refl));
+      type = refl;
+      p1 = refl;
+      p2 = refl;
+      p5 = refl;
+      p6 = refl;
+      p7 = refl;
+      p8 = refl;
+      p9 = (refl, refl);
+      p10 = (refl, refl);
       p11 = refl;
-      p12 = ((33, refl, refl), (33, refl, refl));
+      p12 = (refl, refl);
       no-index = refl;
-      value-first = ((34, refl, refl), (34, refl, refl), (34, refl, refl));
-      step = ((37, refl, refl), (37, refl, refl), (37, refl, refl));
-      operating = ((32, refl, refl), (32, refl, refl));
-      band = ((21, refl, refl), (21, refl, refl), (21, refl, refl), (21, refl, refl));
-      high-bits = ((21, refl, refl), (21, refl, refl), (21, refl, refl));
-      held = ((21, refl, refl), (21, refl, refl), (21, refl, refl));
-      held-type = ((22, refl, refl), (22, refl, refl));
-      types = ((22, refl, refl), (22, refl, refl), (22, refl, refl), (22, refl, refl));
-      emergency = ((12, refl, refl), (12, refl, refl), (12, refl, refl));
-      signatures = ((9, refl, refl), (11, refl, refl));
-      emptied = ((2, refl, refl), (3, refl, refl));
-      errors = ((2, refl, refl), (5, refl, refl), (6, refl, refl));
-      register = ((1, refl, refl), (1, refl, refl), (41, refl, refl));
-      status = ((39, refl, refl), (39, refl, refl));
-      rescaled = ((33, refl, refl), (34, refl, refl), (43, refl, refl), (33, refl, refl));
+      value-first = (refl, refl, refl);
+      step = (refl, refl, refl);
+      operating = (refl, refl);
+      band = (refl, refl, refl, refl);
+      high-bits = (refl, refl, refl);
+      held = (refl, refl, refl);
+      held-type = (refl, refl);
+      types = (refl, refl, refl, refl);
+      emergency = (refl, refl, refl);
+      signatures = (refl, refl);
+      emptied = (refl, refl);
+      errors = (refl, refl, refl);
+      register = (refl, refl, refl);
+      status = (refl, refl);
+      rescaled = (refl, refl, refl, refl);
       saves = (refl, refl);
       loads = (refl, refl);
+      factory = (refl, refl);
       valid = ready-valid;
       each = refl;
     }

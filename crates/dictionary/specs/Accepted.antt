@@ -2,7 +2,7 @@
 use Prim.Native.Nat.{ℕ, _+_, _/_, _%_}
 use lib.Dec.{eqb, leb, ltb}
 use mathlib.Core.Bool.{Bool, true, false, not, _&&_, _||_, cond}
-use mathlib.Core.List.{List, [], _∷_}
+use mathlib.Core.List.{[], _∷_}
 use Rattle.cases.specs.Cases.{firstOf}
 use Rattle.position.specs.Position.{bit, scalingBit}
 use Rattle.dictionary.specs.declared.Pdo.{Pdo}
@@ -19,6 +19,10 @@ within low high v = leb low v && leb v high
 abbrev pub on : ℕ → Bool
 on identifier = not (bit 31 identifier)
 
+-- of node n: 80h+N; that, or that with bit 31
+abbrev pub emergencyIdentifier : ℕ → ℕ → Bool
+emergencyIdentifier n v = eqb (v % 0x80000000) (0x80 + n)
+
 -- bits 30..11 zero; with bit 31 clear also 181h..57Fh
 abbrev pub pdoIdentifier : ℕ → Bool
 pdoIdentifier v = eqb (v % 0x80000000 / 0x800) 0 && (not (on v) || within 0x181 0x57F v)
@@ -27,6 +31,10 @@ pdoIdentifier v = eqb (v % 0x80000000 / 0x800) 0 && (not (on v) || within 0x181 
 abbrev pub transmissionType : ℕ → Bool
 transmissionType v = within 1 240 v || within 254 255 v
 
+-- only bits 2 and 3 may be set
+abbrev pub operatingParameters : ℕ → Bool
+operatingParameters v = eqb (v % 4) 0 && eqb (v / 16) 0
+
 -- What an entry accepts, of node n and range t.
 abbrev pub accepts : Accepted → ℕ → ℕ → ℕ → Bool
 accepts Nothing n t v = false
@@ -34,12 +42,10 @@ accepts All n t v = true
 accepts (Only a) n t v = eqb v a
 accepts (Signature a) n t v = eqb v a
 accepts (Between a b) n t v = within a b v
--- 80h+N; that, or that with bit 31
-accepts EmergencyIdentifier n t v = eqb (v % 0x80000000) (0x80 + n)
+accepts EmergencyIdentifier n t v = emergencyIdentifier n v
 accepts PdoIdentifier n t v = pdoIdentifier v
 accepts TransmissionType n t v = transmissionType v
--- only bits 2 and 3 may be set
-accepts OperatingParameters n t v = eqb (v % 4) 0 && eqb (v / 16) 0
+accepts OperatingParameters n t v = operatingParameters v
 -- below 6002h
 accepts BelowRange n t v = ltb v t
 

@@ -7,6 +7,7 @@ use mathlib.Core.Path.{_≡_}
 use mathlib.Core.Logic.{_↔_}
 use mathlib.Core.Bool.{Bool, true, _&&_, cond}
 use mathlib.Core.List.{List, [], _∷_, map}
+use mathlib.Core.Option.{some}
 use Rattle.dictionary.specs.declared.Device.{Device}
 use Rattle.dictionary.specs.declared.table.Found.the-variants.{At, NoSubIndex, NoIndex}
 use Rattle.dictionary.specs.declared.read.Shown.{Shown}
@@ -14,7 +15,7 @@ use Rattle.dictionary.specs.declared.read.Shown.the-variants.{Number}
 use Rattle.dictionary.specs.Settings.{factory}
 use Rattle.dictionary.specs.Table.{entries, table, rowAt, index, sub, width, isRw, accepted, key, lookup}
 use Rattle.dictionary.specs.Accepted.{isSignature, refusal}
-use Rattle.dictionary.specs.Reads.{noEntry, shownAt}
+use Rattle.dictionary.specs.Reads.{noEntry, reads}
 use Rattle.dictionary.specs.Writes.{written, Fits}
 use Rattle.dictionary.specs.Valid.{ValidSettings, ValidDevice}
 
@@ -43,7 +44,7 @@ pub record Finds (i j : ℕ) : Type 0 where
 
 -- The entry i-j of the device d, Operational or not, reads s.
 abbrev pub Shows : Device → Bool → ℕ → ℕ → Shown → Type 0
-Shows d o i j s = (p : ℕ) × (lookup i j ≡ At p) × (shownAt d o p ≡ s)
+Shows d o i j s = reads d o i j ≡ some s
 
 -- each is above the one before it, the first above a
 abbrev pub risesFrom : ℕ → List ℕ → Bool
@@ -51,7 +52,7 @@ risesFrom a [] = true
 risesFrom a (b ∷ l) = ltb a b && risesFrom b l
 
 pub record Laws : Type 0 where
-  -- Power-up starts with factory settings, the saved set equal to them.
+  -- The factory settings are valid, at each node number 1..127.
   pub factory-valid : (n : ℕ) → 1 ≤ n → n ≤ 127 → ValidSettings n (factory n)
   -- An accepted write leaves a valid device,
   pub written-valid : (d : Device) (p v : ℕ) → Takes d p v → ValidDevice d → ValidDevice (written d (key (rowAt p)) v)

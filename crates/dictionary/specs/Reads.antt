@@ -1,23 +1,16 @@
--- What an entry reads, by its place in the table: blank, or its number.
+-- What an entry reads, blank or its number: 01's chapter "Entries".
 use Prim.Native.Nat.{ℕ, _-_}
 use lib.Dec.{eqb, leb, ltb}
 use lib.ListN.{getD}
 use mathlib.Core.Bool.{Bool, false, not, _&&_, cond}
 use mathlib.Core.List.{List, map}
+use mathlib.Core.Option.{Option, none, some}
 use Rattle.dictionary.specs.declared.Device.{Device}
+use Rattle.dictionary.specs.declared.table.Found.{Found}
+use Rattle.dictionary.specs.declared.table.Found.the-variants.{At, NoSubIndex, NoIndex}
 use Rattle.dictionary.specs.declared.read.Shown.{Shown}
 use Rattle.dictionary.specs.declared.read.Shown.the-variants.{Blank, Number}
-use Rattle.dictionary.specs.Table.{Entry, entries, noRow}
-
--- past the end of the table
-abbrev pub noEntry : Entry
-noEntry = record { row = noRow; blank = λ d. false; number = λ d o. 0 }
-
-abbrev pub shown : Entry → Device → Bool → Shown
-shown e d o = cond (e .blank d) Blank (Number (e .number d o))
-
-unfoldable pub shownAt : Device → Bool → ℕ → Shown
-shownAt d o p = shown (getD entries p noEntry) d o
+use Rattle.dictionary.specs.Table.{Entry, entries, noRow, lookup}
 
 -- The columns of the table, as the code has them.
 abbrev pub numbers : Device → Bool → List ℕ
@@ -27,3 +20,24 @@ numbers d o = map (λ e. e .number d o) entries
 abbrev pub blanks : ℕ → ℕ → Bool → Bool
 blanks k errors good =
     cond (leb 0x1003_01 k && leb k 0x1003_04) (ltb errors (k - 0x1003_00)) (eqb k 0x6004_00 && not good)
+
+-- past the end of the table
+abbrev pub noEntry : Entry
+noEntry = record { row = noRow; blank = λ d. false; number = λ d o. 0 }
+
+abbrev pub shown : Entry → Device → Bool → Shown
+shown e d o = cond (e .blank d) Blank (Number (e .number d o))
+
+-- What the entry at place p reads, of a device that is Operational or not.
+unfoldable pub shownAt : Device → Bool → ℕ → Shown
+shownAt d o p = shown (getD entries p noEntry) d o
+
+-- what the entry that is found reads; none where none is found
+abbrev pub readOf : Device → Bool → Found → Option Shown
+readOf d o (At p) = some (shownAt d o p)
+readOf d o NoSubIndex = none
+readOf d o NoIndex = none
+
+-- What the entry i-j reads.
+abbrev pub reads : Device → Bool → ℕ → ℕ → Option Shown
+reads d o i j = readOf d o (lookup i j)

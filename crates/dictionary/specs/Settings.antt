@@ -1,9 +1,8 @@
 -- The factory settings of 01's table "Entries".
 use Prim.Native.Nat.{ℕ, _+_}
 use lib.IntN.{pos}
-use Rattle.position.specs.declared.Profile.{Profile}
+use Rattle.position.specs.Profile.{fullRange}
 use Rattle.dictionary.specs.declared.Pdo.{Pdo}
-use Rattle.dictionary.specs.declared.Communication.{Communication}
 use Rattle.dictionary.specs.declared.Settings.{Settings}
 
 abbrev pub pdo : ℕ → ℕ → ℕ → Pdo
@@ -13,5 +12,5 @@ abbrev pub factory : ℕ → Settings
 factory n =
     record {
       communication = record { emergency = 0x80 + n; inhibit = 0; heartbeat = 0; pdo1 = pdo (0x180 + n) 254 100; pdo2 = pdo (0x280 + n) 1 0 };
-      profile = record { operating = 0; range = 1048576; preset = 0; step = 5000; offset = pos 0 };
+      profile = record { operating = 0; range = fullRange; preset = 0; step = 5000; offset = pos 0 };
     }

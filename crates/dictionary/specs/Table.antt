@@ -1,5 +1,5 @@
 -- 01's chapter "Entries": its table as a list in index order, one line an entry, to be laid beside 01, and where an entry stands in it.
-use Prim.Native.Nat.{ℕ, zero, suc, _+_, _*_}
+use Prim.Native.Nat.{ℕ, suc, _+_, _*_}
 use lib.Dec.{eqb, ltb}
 use lib.ListN.{getD}
 use mathlib.Core.Bool.{Bool, true, false, not, cond}

@@ -1,7 +1,6 @@
--- What power-up and accepted writes leave of a device: each setting is one that 01's chapter "Entries" accepts and has its type,
--- the node number and the raw position are ones that "Refusal numbers" does not refuse.
-use Prim.Native.Nat.{ℕ, _+_, _%_, _≤_}
-use lib.Dec.{eqb}
+-- What power-up and accepted writes leave of a device: each setting is the factory value of its entry or one that the entry accepts,
+-- and has its type (01's chapter "Entries"); the node number and the raw position are ones that "Refusal numbers" does not refuse.
+use Prim.Native.Nat.{ℕ, _≤_}
 use mathlib.Core.Path.{_≡_}
 use mathlib.Core.Bool.{true, false}
 use Rattle.position.specs.Profile.{ValidProfile}
@@ -10,22 +9,22 @@ use Rattle.dictionary.specs.declared.Communication.{Communication}
 use Rattle.dictionary.specs.declared.Settings.{Settings}
 use Rattle.dictionary.specs.declared.Identity.{Identity}
 use Rattle.dictionary.specs.declared.Device.{Device}
-use Rattle.dictionary.specs.Accepted.{pdoIdentifier, transmissionType}
+use Rattle.dictionary.specs.Accepted.{emergencyIdentifier, pdoIdentifier, transmissionType}
 
 pub record ValidPdo (p : Pdo) : Type 0 where
-  -- sub 1: bits 30..11 zero; with bit 31 clear also 181h..57Fh
+  -- sub 1
   pub identifier : pdoIdentifier (p .identifier) ≡ true
   -- U32
   pub identifier-fits : p .identifier ≤ 0xFFFFFFFF
-  -- sub 2: 1..240, 254, 255
+  -- sub 2
   pub transmission : transmissionType (p .transmission) ≡ true
   -- sub 5: U16; all
   pub event : p .event ≤ 0xFFFF
 
 -- the settings below 2000h, of node n
 pub record ValidCommunication (n : ℕ) (c : Communication) : Type 0 where
-  -- 1014-0: 80h+N; that, or that with bit 31
-  pub emergency : eqb (c .emergency % 0x80000000) (0x80 + n) ≡ true
+  -- 1014-0
+  pub emergency : emergencyIdentifier n (c .emergency) ≡ true
   -- U32
   pub emergency-fits : c .emergency ≤ 0xFFFFFFFF
   -- 1015-0, 1017-0: U16; all
@@ -47,11 +46,11 @@ pub record ValidIdentity (i : Identity) : Type 0 where
   pub serial : i .serial ≤ 0xFFFFFFFF
 
 pub record ValidDevice (d : Device) : Type 0 where
-  -- 4: node number at power-up not 1..127
+  -- node number 1..127; another is refused with 4
   pub node-low : 1 ≤ d .node
   pub node-high : d .node ≤ 127
   pub identity : ValidIdentity (d .identity)
-  -- 3: raw sample above 1,048,575
+  -- raw sample up to 1,048,575; one above is refused with 3
   pub raw : d .reading .raw ≤ 1048575
   -- a missing sample has none
   pub raw-missing : d .reading .good ≡ false → d .reading .raw ≡ 0

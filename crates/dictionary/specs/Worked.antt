@@ -5,14 +5,17 @@ use lib.Dec.{eqb, ltb}
 use mathlib.Core.Path.{_≡_}
 use mathlib.Core.Bool.{Bool, true, false, not, _&&_, cond}
 use mathlib.Core.List.{List, [], _∷_}
+use mathlib.Core.Option.{Option, none, some}
 use Rattle.dictionary.specs.declared.Device.{Device}
 use Rattle.dictionary.specs.declared.table.Row.{Row}
+use Rattle.dictionary.specs.declared.table.Found.{Found}
 use Rattle.dictionary.specs.declared.table.Found.the-variants.{At, NoSubIndex, NoIndex}
 use Rattle.dictionary.specs.declared.read.Shown.{Shown}
 use Rattle.dictionary.specs.declared.read.Shown.the-variants.{Blank, Number}
 use Rattle.dictionary.specs.Settings.{factory}
 use Rattle.dictionary.specs.Table.{table, rowAt, width, isRw, key, lookup}
 use Rattle.dictionary.specs.Accepted.{refusal}
+use Rattle.dictionary.specs.Reads.{reads}
 use Rattle.dictionary.specs.Writes.{written}
 use Rattle.dictionary.specs.Valid.{ValidDevice}
 use Rattle.dictionary.specs.Laws.{Shows}
@@ -58,9 +61,15 @@ after d (w ∷ ws) = after (written d (w .0) (w .1)) ws
 abbrev pub Reads : Device → ℕ → ℕ → Shown → Type 0
 Reads d i j s = Shows d false i j s
 
+-- what the entry that is found answers to a write of v; none where none is found
+abbrev pub refusalOf : Device → ℕ → Found → Option ℕ
+refusalOf d v (At p) = some (refusal d (rowAt p) v)
+refusalOf d v NoSubIndex = none
+refusalOf d v NoIndex = none
+
 -- A write of v to the entry i-j is refused with this abort code; 0: it is accepted.
 abbrev pub Answers : Device → ℕ → ℕ → ℕ → ℕ → Type 0
-Answers d i j v code = (p : ℕ) × (lookup i j ≡ At p) × (refusal d (rowAt p) v ≡ code)
+Answers d i j v code = refusalOf d v (lookup i j) ≡ some code
 
 abbrev pub invalidValue : ℕ
 invalidValue = 0x06090030
@@ -132,6 +141,54 @@ writes =
     (0x6200_00, 8) ∷
     []
 
+-- 01's column of factory values, at node 1: index, sub-index, number.
+abbrev pub factoryValues : List (ℕ × ℕ × ℕ)
+factoryValues =
+    (0x1000, 0, 0x00080196) ∷
+    (0x1003, 0, 0) ∷
+    (0x1005, 0, 0x80) ∷
+    (0x1010, 0, 1) ∷
+    (0x1010, 1, 1) ∷
+    (0x1011, 0, 1) ∷
+    (0x1011, 1, 1) ∷
+    (0x1014, 0, 0x81) ∷
+    (0x1015, 0, 0) ∷
+    (0x1017, 0, 0) ∷
+    (0x1018, 0, 4) ∷
+    (0x1800, 0, 5) ∷
+    (0x1800, 1, 0x181) ∷
+    (0x1800, 2, 254) ∷
+    (0x1800, 5, 100) ∷
+    (0x1801, 0, 5) ∷
+    (0x1801, 1, 0x281) ∷
+    (0x1801, 2, 1) ∷
+    (0x1801, 5, 0) ∷
+    (0x1A00, 0, 1) ∷
+    (0x1A00, 1, 0x60040020) ∷
+    (0x1A01, 0, 1) ∷
+    (0x1A01, 1, 0x60040020) ∷
+    (0x6000, 0, 0) ∷
+    (0x6002, 0, 1048576) ∷
+    (0x6003, 0, 0) ∷
+    (0x6005, 0, 1) ∷
+    (0x6005, 1, 5000) ∷
+    (0x6200, 0, 100) ∷
+    (0x6500, 0, 0) ∷
+    (0x6501, 0, 5000) ∷
+    (0x6504, 0, 1) ∷
+    (0x6509, 0, 0) ∷
+    []
+
+abbrev pub isNumber : ℕ → Option Shown → Bool
+isNumber n none = false
+isNumber n (some Blank) = false
+isNumber n (some (Number m)) = eqb m n
+
+-- Pre-operational, each of these entries reads its number.
+abbrev pub readEach : Device → List (ℕ × ℕ × ℕ) → Bool
+readEach d [] = true
+readEach d (e ∷ l) = isNumber (e .2) (reads d false (e .0) (e .1)) && readEach d l
+
 pub record Worked : Type 0 where
   -- 0008 0196h (profile 406, absolute linear)
   pub type : Reads fresh 0x1000 0 (Number 0x00080196)
@@ -191,6 +248,8 @@ pub record Worked : Type 0 where
   pub saves : (saved .saved ≡ altered .settings) × (saved .settings ≡ altered .settings)
   -- "load" makes the saved set factory; running settings change at the next reset
   pub loads : (written saved 0x1011_01 load .saved ≡ factory 1) × (written saved 0x1011_01 load .settings ≡ altered .settings)
+  -- what entries read after power-up; 6500-0 also when Operational
+  pub factory : (readEach fresh factoryValues ≡ true) × Shows fresh true 0x6500 0 (Number 0x8000)
   -- each rw entry takes some write, at a valid device
   pub valid : ValidDevice ready
   pub each : takeAll ready table writes ≡ true

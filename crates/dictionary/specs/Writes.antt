@@ -44,6 +44,10 @@ rescales k = eqb k 0x6000_00 || eqb k 0x6002_00 || eqb k 0x6005_01
 abbrev pub rangeFor : ℕ → ℕ
 rangeFor operating = cond (bit scalingBit operating) scaledRange fullRange
 
+-- with 6003h and the offset 0
+abbrev pub rescaledTo : ℕ → ℕ → ℕ → Profile
+rescaledTo operating range step = record { operating = operating; range = range; preset = 0; step = step; offset = pos 0 }
+
 -- At the raw position r an accepted 6003h = v makes the offset v − d.
 abbrev pub profileAfter : Profile → ℕ → ℕ → ℕ → Profile
 profileAfter p r k v =
@@ -54,6 +58,10 @@ profileAfter p r k v =
       step = cond (eqb k 0x6005_01) v (p .step);
       offset = cond (rescales k) (pos 0) (cond (eqb k 0x6003_00) (presetTo p r v .offset) (p .offset));
     }
+
+-- What the code needs of a write that was not refused: 6003h is below 6002h.
+abbrev pub Fits : Profile → ℕ → ℕ → Type 0
+Fits p k v = k ≡ 0x6003_00 → v < p .range
 
 -- "save" copies the settings to the saved set. "load" makes the saved set factory; running settings change at the next reset.
 abbrev pub savedAfter : Device → ℕ → Settings
@@ -73,11 +81,3 @@ written d k v =
       };
       saved = savedAfter d k;
     }
-
--- What the code needs of a write that was not refused: 6003h is below 6002h.
-abbrev pub Fits : Profile → ℕ → ℕ → Type 0
-Fits p k v = k ≡ 0x6003_00 → v < p .range
-
--- with 6003h and the offset 0
-abbrev pub rescaledTo : ℕ → ℕ → ℕ → Profile
-rescaledTo operating range step = record { operating = operating; range = range; preset = 0; step = step; offset = pos 0 }

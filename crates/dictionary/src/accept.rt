@@ -1,8 +1,7 @@
 //! Which writes an entry takes: its accepted values, and the state that it asks for.
 ghost use mathlib.Core.Path.{_≡_};
 ghost use mathlib.Core.Bool.{cond};
-ghost use Prim.Native.Nat.{_<_};
-ghost use Rattle.dictionary.specs.Accepted.{on, pdoIdentifier, transmissionType, accepts, valueRefusal, pdoBarred, barred as barredBy, refusal as refusalOf};
+ghost use Rattle.dictionary.specs.Accepted.{on, pdoIdentifier, transmissionType, valueRefusal, pdoBarred, barred as barredBy, refusal as refusalOf};
 use crate::Device;
 use crate::Pdo;
 use crate::table;
@@ -11,6 +10,8 @@ use crate::table::PRESET;
 use crate::table::RANGE;
 use crate::table::Row;
 use crate::table::STEP;
+use crate::table::TPDO1;
+use crate::table::TPDO2;
 use crate::table::key_of;
 
 pub const INVALID_VALUE: u32 = 0x0609_0030;
@@ -23,33 +24,23 @@ const BIT_31: u32 = 0x8000_0000;
 
 const BIT_11: u32 = 0x800;
 
-// Bit 31 of a PDO's identifier, or of the emergency's, switches it off.
-pub fn is_on(identifier: u32) -> bool
-    ensures { λ r. ⌜ r ≡ on identifier ⌝ }
+// The abort code that is due to a write, for its value and then for the state; 0 for none.
+pub fn refusal(device: Device, row: Row, value: u32) -> u32
+    ensures { λ r. ⌜ r ≡ refusalOf device row value ⌝ }
 {
-    identifier / BIT_31 % 2 != 1
-}
-
-fn is_pdo_identifier(value: u32) -> bool
-    ensures { λ r. ⌜ r ≡ pdoIdentifier value ⌝ }
-{
-    (value % BIT_31 / BIT_11 == 0) & (!is_on(value) | (0x181 <= value) & (value <= 0x57F))
-}
-
-fn is_transmission_type(value: u32) -> bool
-    ensures { λ r. ⌜ r ≡ transmissionType value ⌝ }
-{
-    (1 <= value) & (value <= 240) | (254 <= value) & (value <= 255)
-}
-
-fn unless(accepted: bool, code: u32) -> u32
-    ensures { λ r. ⌜ r ≡ cond accepted 0 code ⌝ }
-{
-    if accepted { 0 } else { code }
+    let accepted = row.4;
+    let code = value_refusal(accepted, device.node, device.settings.profile.range, value);
+    if code != 0 {
+        return code;
+    }
+    if barred(device, table::key(row), value) {
+        return DEVICE_STATE;
+    }
+    0
 }
 
 // The abort code for a value that the entry does not accept; 0 for one that it accepts.
-fn value_refusal(accepted: Accepted, node: u8, range: u32, value: u32) -> u32
+pub fn value_refusal(accepted: Accepted, node: u8, range: u32, value: u32) -> u32
     ensures { λ r. ⌜ r ≡ valueRefusal accepted node range value ⌝ }
 {
     match accepted {
@@ -70,13 +61,29 @@ fn value_refusal(accepted: Accepted, node: u8, range: u32, value: u32) -> u32
     }
 }
 
-// Whether a PDO that is on bars a write: of another identifier that leaves it on, or of its type.
-fn pdo_barred(index: u16, pdo: Pdo, key: u32, value: u32) -> bool
-    ensures { λ r. ⌜ r ≡ pdoBarred index pdo key value ⌝ }
+// Bit 31 of a PDO's identifier, or of the emergency's, switches it off.
+pub fn is_on(identifier: u32) -> bool
+    ensures { λ r. ⌜ r ≡ on identifier ⌝ }
 {
-    let held = pdo.identifier;
-    (key == key_of(index, 1)) & is_on(held) & is_on(value) & (value != held)
-        | (key == key_of(index, 2)) & is_on(held)
+    identifier / BIT_31 % 2 != 1
+}
+
+fn unless(accepted: bool, code: u32) -> u32
+    ensures { λ r. ⌜ r ≡ cond accepted 0 code ⌝ }
+{
+    if accepted { 0 } else { code }
+}
+
+fn is_pdo_identifier(value: u32) -> bool
+    ensures { λ r. ⌜ r ≡ pdoIdentifier value ⌝ }
+{
+    (value % BIT_31 / BIT_11 == 0) & (!is_on(value) | (0x181 <= value) & (value <= 0x57F))
+}
+
+fn is_transmission_type(value: u32) -> bool
+    ensures { λ r. ⌜ r ≡ transmissionType value ⌝ }
+{
+    (1 <= value) & (value <= 240) | (254 <= value) & (value <= 255)
 }
 
 fn barred(device: Device, key: u32, value: u32) -> bool
@@ -86,21 +93,15 @@ fn barred(device: Device, key: u32, value: u32) -> bool
     let pdo2 = device.settings.communication.pdo2;
     ((key == RANGE) | (key == STEP)) & !position::scaling(device.settings.profile.operating)
         | (key == PRESET) & !device.reading.good
-        | pdo_barred(0x1800, pdo1, key, value)
-        | pdo_barred(0x1801, pdo2, key, value)
+        | pdo_barred(TPDO1, pdo1, key, value)
+        | pdo_barred(TPDO2, pdo2, key, value)
 }
 
-// The abort code that is due to a write, for its value and then for the state; 0 for none.
-pub fn refusal(device: Device, row: Row, value: u32) -> u32
-    ensures { λ r. ⌜ r ≡ refusalOf device row value ⌝ }
+// Whether a PDO that is on bars a write: of another identifier that leaves it on, or of its type.
+fn pdo_barred(index: u16, pdo: Pdo, key: u32, value: u32) -> bool
+    ensures { λ r. ⌜ r ≡ pdoBarred index pdo key value ⌝ }
 {
-    let accepted = row.4;
-    let code = value_refusal(accepted, device.node, device.settings.profile.range, value);
-    if code != 0 {
-        return code;
-    }
-    if barred(device, table::key(row), value) {
-        return DEVICE_STATE;
-    }
-    0
+    let held = pdo.identifier;
+    (key == key_of(index, 1)) & is_on(held) & is_on(value) & (value != held)
+        | (key == key_of(index, 2)) & is_on(held)
 }

@@ -1,7 +1,7 @@
 //! The object dictionary: the settings, what each entry reads, which values it takes, and what a write does.
 ghost use mathlib.Core.Path.{_≡_};
-ghost use Prim.Native.Nat.{_<_};
 ghost use Rattle.dictionary.specs.Settings.{factory as factorySettings};
+use position::FULL_RANGE;
 use position::Profile;
 
 pub mod accept;
@@ -56,7 +56,7 @@ impl Settings {
             },
             profile: Profile {
                 operating: 0,
-                range: 1_048_576,
+                range: FULL_RANGE,
                 preset: 0,
                 step: 5_000,
                 offset: 0,

@@ -35,6 +35,18 @@ const FIRST_ERROR: u32 = 0x1003_01;
 
 const LAST_ERROR: u32 = 0x1003_04;
 
+pub fn read(device: Device, operational: bool, place: usize) -> Shown
+    requires { ⌜ (place < length table) × (ValidProfile (device .settings .profile)) ⌝ }
+    ensures { λ r. ⌜ r ≡ shownAt device operational place ⌝ }
+{
+    let row = row_at(place);
+    if is_blank(table::key(row), device.errors, device.reading.good) {
+        return Shown::Blank;
+    }
+    let all = numbers(device, operational);
+    Shown::Number(all[place])
+}
+
 fn is_blank(key: u32, errors: u32, good: bool) -> bool
     ensures { λ r. ⌜ r ≡ blanks key errors good ⌝ }
 {
@@ -42,23 +54,6 @@ fn is_blank(key: u32, errors: u32, good: bool) -> bool
         return errors < key - ERROR_COUNT;
     }
     (key == POSITION) & !good
-}
-
-fn register(good: bool) -> u32
-    ensures { λ r. ⌜ r ≡ cond (not good) 1 0 ⌝ }
-{
-    if good { 0 } else { 1 }
-}
-
-fn status(operating: u32, operational: bool) -> u32
-    requires { ⌜ operating < 16 ⌝ }
-    ensures { λ r. ⌜ r ≡ operating + cond operational 0x8000 0 ⌝ }
-{
-    if operational {
-        operating + OPERATIONAL
-    } else {
-        operating
-    }
 }
 
 // The number of each entry, in the table's order; that of a blank one is not shown.
@@ -121,14 +116,19 @@ fn numbers(device: Device, operational: bool) -> [u32; ROWS]
     ]
 }
 
-pub fn read(device: Device, operational: bool, place: usize) -> Shown
-    requires { ⌜ (place < length table) × (ValidProfile (device .settings .profile)) ⌝ }
-    ensures { λ r. ⌜ r ≡ shownAt device operational place ⌝ }
+fn register(good: bool) -> u32
+    ensures { λ r. ⌜ r ≡ cond (not good) 1 0 ⌝ }
 {
-    let row = row_at(place);
-    if is_blank(table::key(row), device.errors, device.reading.good) {
-        return Shown::Blank;
+    if good { 0 } else { 1 }
+}
+
+fn status(operating: u32, operational: bool) -> u32
+    requires { ⌜ operating < 16 ⌝ }
+    ensures { λ r. ⌜ r ≡ operating + cond operational 0x8000 0 ⌝ }
+{
+    if operational {
+        operating + OPERATIONAL
+    } else {
+        operating
     }
-    let all = numbers(device, operational);
-    Shown::Number(all[place])
 }

@@ -1,5 +1,6 @@
+//! The table of entries, in index order: the row of each, and where an entry stands.
 ghost use mathlib.Core.Path.{_≡_};
-ghost use Prim.Native.Nat.{_+_, _*_, _<_};
+ghost use Prim.Native.Nat.{_<_};
 ghost use lib.ListN.{getD, length};
 ghost use Rattle.dictionary.specs.Table.{table, noRow, keyOf, key as keyIn, lookup};
 
@@ -19,6 +20,44 @@ pub enum Accepted {
 
 // Index, sub-index, type, whether it can be written, accepted values.
 pub struct Row(pub u16, pub u8, pub u8, pub bool, pub Accepted);
+
+// Where an index and a sub-index stand in the table.
+pub enum Found {
+    At(usize),
+    NoSubIndex,
+    NoIndex,
+}
+
+pub const TPDO1: u16 = 0x1800;
+
+pub const TPDO2: u16 = 0x1801;
+
+// An entry is named by its key: 6003-0 is 6003_00h, 1800-5 is 1800_05h.
+pub const ERROR_COUNT: u32 = 0x1003_00;
+
+pub const SAVE: u32 = 0x1010_01;
+
+pub const LOAD: u32 = 0x1011_01;
+
+pub const EMERGENCY: u32 = 0x1014_00;
+
+pub const INHIBIT: u32 = 0x1015_00;
+
+pub const HEARTBEAT: u32 = 0x1017_00;
+
+pub const TPDO1_EVENT: u32 = 0x1800_05;
+
+pub const OPERATING: u32 = 0x6000_00;
+
+pub const RANGE: u32 = 0x6002_00;
+
+pub const PRESET: u32 = 0x6003_00;
+
+pub const POSITION: u32 = 0x6004_00;
+
+pub const STEP: u32 = 0x6005_01;
+
+pub const CYCLE: u32 = 0x6200_00;
 
 // A type is its number of bytes.
 const U8: u8 = 1;
@@ -82,20 +121,6 @@ const TABLE: [Row; ROWS] = [
     Row(0x6509, 0, S32, RO, Accepted::Nothing),
 ];
 
-pub fn row_at(place: usize) -> Row
-    requires { ⌜ place < length table ⌝ }
-    ensures { λ r. ⌜ r ≡ getD table place noRow ⌝ }
-{
-    TABLE[place]
-}
-
-// Where an index and a sub-index stand in the table.
-pub enum Found {
-    At(usize),
-    NoSubIndex,
-    NoIndex,
-}
-
 pub fn find(index: u16, sub: u8) -> Found
     ensures { λ r. ⌜ r ≡ lookup index sub ⌝ }
 {
@@ -117,11 +142,11 @@ pub fn find(index: u16, sub: u8) -> Found
     Found::NoIndex
 }
 
-// An entry is named by its key: 6003-0 is 6003_00h, 1800-5 is 1800_05h.
-pub fn key_of(index: u16, sub: u8) -> u32
-    ensures { λ r. ⌜ r ≡ keyOf index sub ⌝ }
+pub fn row_at(place: usize) -> Row
+    requires { ⌜ place < length table ⌝ }
+    ensures { λ r. ⌜ r ≡ getD table place noRow ⌝ }
 {
-    index as u32 * 256 + sub as u32
+    TABLE[place]
 }
 
 pub fn key(row: Row) -> u32
@@ -130,28 +155,8 @@ pub fn key(row: Row) -> u32
     key_of(row.0, row.1)
 }
 
-pub const ERROR_COUNT: u32 = 0x1003_00;
-
-pub const SAVE: u32 = 0x1010_01;
-
-pub const LOAD: u32 = 0x1011_01;
-
-pub const EMERGENCY: u32 = 0x1014_00;
-
-pub const INHIBIT: u32 = 0x1015_00;
-
-pub const HEARTBEAT: u32 = 0x1017_00;
-
-pub const TPDO1_EVENT: u32 = 0x1800_05;
-
-pub const OPERATING: u32 = 0x6000_00;
-
-pub const RANGE: u32 = 0x6002_00;
-
-pub const PRESET: u32 = 0x6003_00;
-
-pub const POSITION: u32 = 0x6004_00;
-
-pub const STEP: u32 = 0x6005_01;
-
-pub const CYCLE: u32 = 0x6200_00;
+pub fn key_of(index: u16, sub: u8) -> u32
+    ensures { λ r. ⌜ r ≡ keyOf index sub ⌝ }
+{
+    index as u32 * 256 + sub as u32
+}

@@ -1,7 +1,6 @@
 //! What an accepted write does.
 ghost use mathlib.Core.Path.{_≡_};
 ghost use mathlib.Core.Bool.{cond};
-ghost use Prim.Native.Nat.{_<_};
 ghost use Rattle.position.specs.Profile.{ValidProfile};
 ghost use Rattle.dictionary.specs.Writes.{pdoAfter, communicationAfter, rangeFor, rescaledTo, profileAfter, savedAfter, Fits, written};
 use crate::Communication;
@@ -19,23 +18,33 @@ use crate::table::PRESET;
 use crate::table::RANGE;
 use crate::table::SAVE;
 use crate::table::STEP;
+use crate::table::TPDO1;
 use crate::table::TPDO1_EVENT;
+use crate::table::TPDO2;
 use crate::table::key_of;
+use position::FULL_RANGE;
 use position::Profile;
+use position::SCALED_RANGE;
 
-fn choose(test: bool, a: u32, b: u32) -> u32
-    ensures { λ r. ⌜ r ≡ cond test a b ⌝ }
+// The device after a write that `accept::refusal` does not refuse.
+pub fn write(device: Device, key: u32, value: u32) -> Device
+    requires { ⌜ (ValidProfile (device .settings .profile)) × (Fits (device .settings .profile) key value) ⌝ }
+    ensures { λ r. ⌜ r ≡ written device key value ⌝ }
 {
-    if test { a } else { b }
-}
-
-fn pdo_after(index: u16, pdo: Pdo, key: u32, value: u32) -> Pdo
-    ensures { λ r. ⌜ r ≡ pdoAfter index pdo key value ⌝ }
-{
-    Pdo {
-        identifier: choose(key == key_of(index, 1), value, pdo.identifier),
-        transmission: choose(key == key_of(index, 2), value, pdo.transmission),
-        event: choose(key == key_of(index, 5), value, pdo.event),
+    let identity = device.identity;
+    let reading = device.reading;
+    let communication = device.settings.communication;
+    let profile = device.settings.profile;
+    Device {
+        node: device.node,
+        identity: identity,
+        reading: reading,
+        errors: choose(key == ERROR_COUNT, 0, device.errors),
+        settings: Settings {
+            communication: communication_after(communication, key, value),
+            profile: profile_after(profile, reading.raw, key, value),
+        },
+        saved: saved_after(device, key),
     }
 }
 
@@ -48,27 +57,18 @@ fn communication_after(old: Communication, key: u32, value: u32) -> Communicatio
         emergency: choose(key == EMERGENCY, value, old.emergency),
         inhibit: choose(key == INHIBIT, value, old.inhibit),
         heartbeat: choose(key == HEARTBEAT, value, old.heartbeat),
-        pdo1: pdo_after(0x1800, pdo1, choose(key == CYCLE, TPDO1_EVENT, key), value),
-        pdo2: pdo_after(0x1801, pdo2, key, value),
+        pdo1: pdo_after(TPDO1, pdo1, choose(key == CYCLE, TPDO1_EVENT, key), value),
+        pdo2: pdo_after(TPDO2, pdo2, key, value),
     }
 }
 
-fn range_for(operating: u32) -> u32
-    ensures { λ r. ⌜ r ≡ rangeFor operating ⌝ }
+fn pdo_after(index: u16, pdo: Pdo, key: u32, value: u32) -> Pdo
+    ensures { λ r. ⌜ r ≡ pdoAfter index pdo key value ⌝ }
 {
-    choose(position::scaling(operating), 1_000_000, 1_048_576)
-}
-
-// With the preset and the offset 0.
-fn rescaled(operating: u32, range: u32, step: u32) -> Profile
-    ensures { λ r. ⌜ r ≡ rescaledTo operating range step ⌝ }
-{
-    Profile {
-        operating: operating,
-        range: range,
-        preset: 0,
-        step: step,
-        offset: 0,
+    Pdo {
+        identifier: choose(key == key_of(index, 1), value, pdo.identifier),
+        transmission: choose(key == key_of(index, 2), value, pdo.transmission),
+        event: choose(key == key_of(index, 5), value, pdo.event),
     }
 }
 
@@ -91,6 +91,25 @@ fn profile_after(old: Profile, raw: u32, key: u32, value: u32) -> Profile
     old
 }
 
+fn range_for(operating: u32) -> u32
+    ensures { λ r. ⌜ r ≡ rangeFor operating ⌝ }
+{
+    choose(position::scaling(operating), SCALED_RANGE, FULL_RANGE)
+}
+
+// With the preset and the offset 0.
+fn rescaled(operating: u32, range: u32, step: u32) -> Profile
+    ensures { λ r. ⌜ r ≡ rescaledTo operating range step ⌝ }
+{
+    Profile {
+        operating: operating,
+        range: range,
+        preset: 0,
+        step: step,
+        offset: 0,
+    }
+}
+
 fn saved_after(device: Device, key: u32) -> Settings
     ensures { λ r. ⌜ r ≡ savedAfter device key ⌝ }
 {
@@ -103,24 +122,8 @@ fn saved_after(device: Device, key: u32) -> Settings
     device.saved
 }
 
-// The device after a write that `accept::refusal` does not refuse.
-pub fn write(device: Device, key: u32, value: u32) -> Device
-    requires { ⌜ (ValidProfile (device .settings .profile)) × (Fits (device .settings .profile) key value) ⌝ }
-    ensures { λ r. ⌜ r ≡ written device key value ⌝ }
+fn choose(test: bool, a: u32, b: u32) -> u32
+    ensures { λ r. ⌜ r ≡ cond test a b ⌝ }
 {
-    let identity = device.identity;
-    let reading = device.reading;
-    let communication = device.settings.communication;
-    let profile = device.settings.profile;
-    Device {
-        node: device.node,
-        identity: identity,
-        reading: reading,
-        errors: choose(key == ERROR_COUNT, 0, device.errors),
-        settings: Settings {
-            communication: communication_after(communication, key, value),
-            profile: profile_after(profile, reading.raw, key, value),
-        },
-        saved: saved_after(device, key),
-    }
+    if test { a } else { b }
 }

@@ -16,6 +16,11 @@ pub struct Profile {
     pub offset: i32,
 }
 
+// 6002h with scaling off, and where scaling is switched on.
+pub const FULL_RANGE: u32 = 1_048_576;
+
+pub const SCALED_RANGE: u32 = 1_000_000;
+
 // 6000h: bits 2 and 3.
 const SCALING: u32 = 4;
 

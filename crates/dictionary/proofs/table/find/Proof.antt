@@ -3,11 +3,11 @@ use Prim.Native.Nat.{ℕ, _≤_, _<_, _-_}
 use mathlib.Core.Path.{_≡_, refl, sym, _∙_}
 use mathlib.Core.Logic.{⊎-elim}
 use native.Mathlib.Omega.{arith}
-use borrow.Author.Needs.{needs}
 use lib.ListN.{drop, length}
 use lib.Seq.{drop-length}
 use Rattle.dictionary.specs.declared.table.Found.the-variants.{NoIndex}
-use Rattle.dictionary.specs.Table.{table, entries, lookup, lookupFrom}
+use Rattle.dictionary.specs.Table.{table, lookup, lookupFrom}
+use Rattle.dictionary.proofs.Columns.{rows-are}
 use Rattle.dictionary.proofs.Lookup.{over, hit, passed, other}
 use Rattle.dictionary.proofs.table.find.Statement.{statement}
 use Rattle.dictionary.proofs.table.find.Tie as tie
@@ -19,13 +19,9 @@ Inv-loop index sub seen₀ place₀ seen place =
 abbrev μ-loop : tie.MeasureT-loop
 μ-loop index sub seen₀ place₀ seen place = length table - place
 
-rows-are : length table ≡ 44
-unfolding table entries
-rows-are = refl
-
-none-left : (p i j : ℕ) → 44 ≤ p → p ≤ length table → lookupFrom p (drop p table) i j ≡ NoIndex
+none-left : (p i j : ℕ) → length table ≤ p → p ≤ length table → lookupFrom p (drop p table) i j ≡ NoIndex
 none-left p i j h g =
-    let e : p ≡ length table = omega (arith, rows-are) in
+    let e : p ≡ length table = omega arith in
     rw (e, drop-length table)
 
 loop-holds : tie.Need-loop-holds Inv-loop μ-loop
@@ -62,12 +58,12 @@ loop-again c =
 returns-2 : tie.Need-returns-2 Inv-loop μ-loop
 returns-2 c =
     let l = c .before .before .loop in
-    sym (l .inv .1 ∙ rw (c .if3 .taken, none-left _ _ _ (c .before .loop-test .left) (l .inv .0)))
+    sym (l .inv .1 ∙ rw (c .if3 .taken, none-left _ _ _ (omega (arith, rows-are)) (l .inv .0)))
 
 returns-3 : tie.Need-returns-3 Inv-loop μ-loop
 returns-3 c =
     let l = c .before .before .loop in
-    sym (l .inv .1 ∙ rw (c .if3 .left, none-left _ _ _ (c .before .loop-test .left) (l .inv .0)))
+    sym (l .inv .1 ∙ rw (c .if3 .left, none-left _ _ _ (omega (arith, rows-are)) (l .inv .0)))
 
 pub find-spec : {M : Type 1} → statement M
 find-spec =

@@ -1,7 +1,6 @@
 -- `table::row_at` meets its contract: the constant is the table of `specs/`, row by row.
 use mathlib.Core.Path.{refl}
 use borrow.Author.Needs.{needs}
-use native.Mathlib.Omega.{arith}
 use Rattle.dictionary.specs.Table.{entries, table}
 use Rattle.dictionary.proofs.table.row_at.Statement.{statement}
 use Rattle.dictionary.proofs.table.row_at.Tie as tie
