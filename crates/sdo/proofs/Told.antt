@@ -21,9 +21,8 @@ use Rattle.dictionary.specs.Accepted.{acceptsIn, isSignature, barred, refusal}
 use Rattle.dictionary.proofs.Columns.{rows-are}
 use Rattle.sdo.specs.Request.{indexOf, subOf, dataOf, aborting, reading, writing}
 use Rattle.sdo.specs.Service.{isBlank, numberIn, lengthOf, cutTo, dueOf, due}
-use Rattle.sdo.specs.Steps.{Within}
 use Rattle.sdo.specs.Laws.{Told}
-use Rattle.sdo.proofs.Place.{within}
+use Rattle.sdo.proofs.Place.{Within, within}
 
 -- a request that is neither refused as unknown nor a read is a write
 write : (r w : Bool) → (not r && not w) ≡ false → r ≡ false → w ≡ true

@@ -5,7 +5,9 @@ use lib.ListN.{getD}
 use mathlib.Core.Bool.{Bool, _&&_, cond}
 use mathlib.Core.List.{List, [], _∷_}
 use Rattle.can.specs.Number.{number}
-use Rattle.sdo.specs.declared.request.Ask.the-variants.{Read, Write}
+use Rattle.sdo.specs.declared.request.Access.{Access}
+use Rattle.sdo.specs.declared.request.Access.the-variants.{Read, Write}
+use Rattle.sdo.specs.declared.request.Ask.{Ask}
 use Rattle.sdo.specs.declared.request.Request.{Request}
 use Rattle.sdo.specs.declared.request.Request.the-variants.{Asked, Reason}
 
@@ -44,8 +46,12 @@ writing f = eqb (top f) 1 && eqb (byte f 0 / 2 % 2) 1
 abbrev pub saidLength : ℕ → ℕ
 saidLength b = cond (eqb (b % 2) 1) (4 - b / 4 % 4) 0
 
+-- what is asked of the entry that the request names
+abbrev asking : List ℕ → Access → Request
+asking f a = Asked (record { index = indexOf f; sub = subOf f; access = a })
+
 abbrev pub taken : List ℕ → Request
 taken f =
-    cond (reading f) (Asked (Read (indexOf f) (subOf f)))
-    (cond (writing f) (Asked (Write (indexOf f) (subOf f) (saidLength (byte f 0)) (dataOf f)))
+    cond (reading f) (asking f Read)
+    (cond (writing f) (asking f (Write (saidLength (byte f 0)) (dataOf f)))
     Reason)

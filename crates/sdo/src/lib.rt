@@ -1,10 +1,13 @@
 //! The expedited SDO server: from a request's eight bytes to the reply's, and to what the write does.
 ghost use mathlib.Core.Path.{_≡_};
+ghost use Prim.Native.Nat.{_<_};
+ghost use lib.ListN.{length};
+ghost use Rattle.dictionary.specs.Table.{table};
 ghost use Rattle.position.specs.Profile.{ValidProfile};
-ghost use Rattle.sdo.specs.Steps.{Within, readReply, writeReply, replyTo};
+ghost use Rattle.sdo.specs.Steps.{entryReply, replyTo};
 ghost use Rattle.sdo.specs.Service.{answer, due};
 use crate::reply::Served;
-use crate::request::Ask;
+use crate::request::Access;
 use crate::request::Request;
 use can::Bytes;
 use dictionary::Device;
@@ -38,41 +41,28 @@ fn reply_to(device: Device, operational: bool, bytes: Bytes, request: Request) -
     let Request::Asked(ask) = request else {
         return reply::abort(bytes, UNKNOWN_COMMAND);
     };
-    match ask {
-        Ask::Read { index, sub } => {
-            read(
-                device,
-                operational,
-                bytes,
-                dictionary::table::find(index, sub),
-            )
-        }
-        Ask::Write {
-            index,
-            sub,
-            length,
-            content,
-        } => {
-            write(
-                device,
-                bytes,
-                length,
-                content,
-                dictionary::table::find(index, sub),
-            )
-        }
-    }
-}
-
-fn read(device: Device, operational: bool, bytes: Bytes, found: Found) -> Served
-    requires { ⌜ (Within found) × (ValidProfile (device .settings .profile)) ⌝ }
-    ensures { λ r. ⌜ r ≡ readReply device operational bytes found ⌝ }
-{
+    let access = ask.access;
+    let found = dictionary::table::find(ask.index, ask.sub);
     match found {
         Found::NoIndex => reply::abort(bytes, NO_SUCH_INDEX),
         Found::NoSubIndex => reply::abort(bytes, NO_SUCH_SUB_INDEX),
-        Found::At(place) => {
-            let row = dictionary::table::row_at(place);
+        Found::At(place) => entry_reply(device, operational, bytes, place, access),
+    }
+}
+
+fn entry_reply(
+    device: Device,
+    operational: bool,
+    bytes: Bytes,
+    place: usize,
+    access: Access,
+) -> Served
+    requires { ⌜ (place < length table) × (ValidProfile (device .settings .profile)) ⌝ }
+    ensures { λ r. ⌜ r ≡ entryReply device operational bytes place access ⌝ }
+{
+    let row = dictionary::table::row_at(place);
+    match access {
+        Access::Read => {
             let width = row.2;
             reply::shown(
                 bytes,
@@ -80,24 +70,8 @@ fn read(device: Device, operational: bool, bytes: Bytes, found: Found) -> Served
                 dictionary::read::read(device, operational, place),
             )
         }
-    }
-}
-
-fn write(device: Device, bytes: Bytes, length: u8, content: u32, found: Found) -> Served
-    requires { ⌜ Within found ⌝ }
-    ensures { λ r. ⌜ r ≡ writeReply device bytes length content found ⌝ }
-{
-    match found {
-        Found::NoIndex => reply::abort(bytes, NO_SUCH_INDEX),
-        Found::NoSubIndex => reply::abort(bytes, NO_SUCH_SUB_INDEX),
-        Found::At(place) => {
-            download::to_row(
-                device,
-                bytes,
-                length,
-                content,
-                dictionary::table::row_at(place),
-            )
+        Access::Write { length, content } => {
+            download::to_row(device, bytes, length, content, row)
         }
     }
 }

@@ -3,18 +3,16 @@ ghost use mathlib.Core.Path.{_≡_};
 ghost use Rattle.sdo.specs.Request.{isAbort, indexOf, dataOf, saidLength, taken};
 use can::Bytes;
 
-// A read or a write. `length` is 0 where the request leaves it to the entry.
-pub enum Ask {
-    Read {
-        index: u16,
-        sub: u8,
-    },
-    Write {
-        index: u16,
-        sub: u8,
-        length: u8,
-        content: u32,
-    },
+// `length` is 0 where the request leaves it to the entry.
+pub enum Access {
+    Read,
+    Write { length: u8, content: u32 },
+}
+
+pub struct Ask {
+    pub index: u16,
+    pub sub: u8,
+    pub access: Access,
 }
 
 // A read, a write, or a reason to abort: 0504 0001h.
@@ -43,14 +41,19 @@ pub fn taken_apart(bytes: Bytes) -> Request
     let index = index_of(bytes);
     let sub = bytes[3];
     if command / 32 == READ {
-        return Request::Asked(Ask::Read { index, sub });
+        return Request::Asked(Ask {
+            index: index,
+            sub: sub,
+            access: Access::Read,
+        });
     }
     if (command / 32 == WRITE) & (command / 2 % 2 == 1) {
-        return Request::Asked(Ask::Write {
-            index,
-            sub,
-            length: said_length(command),
-            content: data_of(bytes),
+        let length = said_length(command);
+        let content = data_of(bytes);
+        return Request::Asked(Ask {
+            index: index,
+            sub: sub,
+            access: Access::Write { length, content },
         });
     }
     Request::Reason

@@ -1,5 +1,6 @@
--- `reply_to` meets its contract: a reason to abort, a read, or a write.
-use Rattle.sdo.proofs.Place.{within}
+-- `reply_to` meets its contract: a reason to abort, or what was found.
+use Rattle.sdo.proofs.Place.{stands}
+use mathlib.Core.Path.{sym, _∙_}
 use borrow.Author.Needs.{needs}
 use Rattle.sdo.proofs.reply_to.Statement.{statement}
 use Rattle.sdo.proofs.reply_to.Tie as tie
@@ -16,29 +17,35 @@ abort-requires c κs = search needs
 returns : tie.Need-returns
 returns c = rw (c .before .enum-told .given .1, c .abort .ensures)
 
-enum-known-ask : tie.Need-enum-known-ask
-enum-known-ask c = search needs
-
 find-requires : tie.Need-find-requires
 find-requires c κs = search needs
 
-read-requires : tie.Need-read-requires
-read-requires c κs = (within _ _ _ (c .find .ensures), c .before .before .before .before .before .before .before .pre)
+enum-told-2 : tie.Need-enum-told-2
+enum-told-2 c = search needs
 
-enum-known-ask-2 : tie.Need-enum-known-ask-2
-enum-known-ask-2 c = search needs
+abort-requires-2 : tie.Need-abort-requires-2
+abort-requires-2 c κs = search needs
 
-find-requires-2 : tie.Need-find-requires-2
-find-requires-2 c κs = search needs
+enum-told-3 : tie.Need-enum-told-3
+enum-told-3 c = search needs
 
-write-requires : tie.Need-write-requires
-write-requires c κs = within _ _ _ (c .find2 .ensures)
+abort-requires-3 : tie.Need-abort-requires-3
+abort-requires-3 c κs = search needs
+
+enum-known-found : tie.Need-enum-known-found
+enum-known-found c = search needs
+
+entry-reply-requires : tie.Need-entry-reply-requires
+entry-reply-requires c κs = (stands _ _ _ (sym (c .before .before .before .find .ensures) ∙ c .before .found .given .1), c .before .before .before .before .before .before .before .pre)
 
 returns-2 : tie.Need-returns-2
-returns-2 c = rw (c .before .before .before .before .before .before .request .given .1, c .before .before .before .ask .given .1, c .read .ensures, c .before .find .ensures)
+returns-2 c = rw (c .before .before .before .before .before .request .given .1, ← (c .before .before .before .find .ensures), c .before .enum-told2 .given .1, c .abort2 .ensures)
 
 returns-3 : tie.Need-returns-3
-returns-3 c = rw (c .before .before .before .before .before .before .request .given .1, c .before .before .before .ask2 .given .1, c .write .ensures, c .before .find2 .ensures)
+returns-3 c = rw (c .before .before .before .before .before .request .given .1, ← (c .before .before .before .find .ensures), c .before .enum-told3 .given .1, c .abort3 .ensures)
+
+returns-4 : tie.Need-returns-4
+returns-4 c = rw (c .before .before .before .before .before .before .request .given .1, ← (c .before .before .before .before .find .ensures), c .before .before .found .given .1, c .entry-reply .ensures)
 
 pub reply-to-spec : {M : Type 1} → statement M
 reply-to-spec =
@@ -48,11 +55,13 @@ reply-to-spec =
     enum-told
     abort-requires
     returns
-    enum-known-ask
     find-requires
-    read-requires
-    enum-known-ask-2
-    find-requires-2
-    write-requires
+    enum-told-2
+    abort-requires-2
+    enum-told-3
+    abort-requires-3
+    enum-known-found
+    entry-reply-requires
     returns-2
-    returns-3)
+    returns-3
+    returns-4)
