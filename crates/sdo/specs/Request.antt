@@ -7,7 +7,6 @@ use mathlib.Core.List.{List, [], _∷_}
 use Rattle.can.specs.Number.{number}
 use Rattle.sdo.specs.declared.request.Access.{Access}
 use Rattle.sdo.specs.declared.request.Access.the-variants.{Read, Write}
-use Rattle.sdo.specs.declared.request.Ask.{Ask}
 use Rattle.sdo.specs.declared.request.Request.{Request}
 use Rattle.sdo.specs.declared.request.Request.the-variants.{Asked, Reason}
 
