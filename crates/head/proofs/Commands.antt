@@ -1,0 +1,49 @@
+-- What an NMT command and a SYNC do, by the tests that the code makes.
+use Prim.Native.Nat.{ℕ}
+use lib.Dec.{eqb, leb}
+use mathlib.Core.Path.{_≡_, refl, sym, ap, _∙_}
+use mathlib.Core.Bool.{Bool, true, false, _&&_, _||_, cond}
+use Rattle.can.specs.declared.Received.{Received}
+use Rattle.cases.proofs.Cases.{by₂}
+use Rattle.head.specs.declared.Head.{Head}
+use Rattle.head.specs.States.{Goal, operational, state, isIn, node, Reset, restored, Command, noCommand, start, restart, command, resetCommand, byteOf, commandOf}
+use Rattle.head.specs.Timers.{timersSynced}
+use Rattle.head.specs.Acts.{Act, nothing, reset, sync, resetWith, ever, timing, syncMoments, settledTo, act}
+use Rattle.head.specs.Calls.{commanded, synchronised}
+use Rattle.head.specs.Steps.{entering}
+use Rattle.head.proofs.Nothing.{act-nothing}
+
+-- an act that is none leaves the head
+pub none-acts : (h : Head) (a : Act) → a ≡ nothing → h ≡ act false h a
+none-acts h a e = sym (ap (act false h) e ∙ act-nothing h)
+
+module _ (h : Head) where
+  pub enters : (g : Goal) → entering h (state g) ≡ act false h (commanded (h .core) (start g))
+  unfolding act
+  enters g = by₂ (λ (r : Head) (a : Act). r ≡ act false h a) (isIn g (h .core)) (λ e. sym (act-nothing h)) (λ e. refl)
+
+  pub resets : (r : Reset) → settledTo false h (resetWith (h .core) (restored r (h .core .device .settings) (h .core .device .saved))) ever ≡ act false h (reset r)
+  unfolding act
+  resets r = refl
+
+  pub reset-as : (b : ℕ) (k : Command) → resetCommand b ≡ k → act false h (commanded (h .core) k) ≡ act false h (commanded (h .core) (resetCommand b))
+  reset-as b k e = ap (λ x. act false h (commanded (h .core) x)) (sym e)
+
+  module _ (f : Received) where
+    abbrev Addressed : Bool
+    Addressed = eqb (f .length) 2 && (eqb (byteOf f 1) 0 || eqb (byteOf f 1) (node (h .core)))
+
+    pub unaddressed : Addressed ≡ false → h ≡ act false h (commanded (h .core) (commandOf (node (h .core)) f))
+    unaddressed e = none-acts h _ (rw e)
+
+    pub obeys : (k : Command) → Addressed ≡ true → command (byteOf f 0) ≡ k → act false h (commanded (h .core) k) ≡ act false h (commanded (h .core) (commandOf (node (h .core)) f))
+    obeys k e i = rw (e, i)
+
+  module _ (length : ℕ) where
+    pub no-sync : (leb length 1 && isIn operational (h .core)) ≡ false → h ≡ act false h (synchronised (h .core) length)
+    no-sync e = none-acts h _ (rw e)
+
+    pub syncs : (leb length 1 && isIn operational (h .core)) ≡ true
+        → settledTo false h (timing (h .core) (timersSynced (h .core))) (syncMoments (h .core)) ≡ act false h (synchronised (h .core) length)
+    unfolding act
+    syncs e = let m : synchronised (h .core) length ≡ sync = rw e in sym (ap (act false h) m)

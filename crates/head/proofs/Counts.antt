@@ -1,0 +1,97 @@
+-- An act that fits leaves valid timers: each count stands below its period, also after a write of the period.
+use Prim.Native.Nat.{ℕ, _≤_}
+use native.Mathlib.Omega.{arith}
+use lib.Dec.{eqb}
+use mathlib.Core.Path.{_≡_, refl, sym}
+use mathlib.Core.Bool.{Bool, false, not, _&&_, _||_, or-true, or-false}
+use mathlib.Core.List.{List}
+use mathlib.Core.Logic.{inl}
+use Rattle.cases.proofs.Cases.{by, by₂, neither, test}
+use Rattle.dictionary.specs.declared.Pdo.{Pdo}
+use Rattle.dictionary.specs.declared.Communication.{Communication}
+use Rattle.dictionary.specs.declared.table.Found.{Found}
+use Rattle.dictionary.specs.Table.{missing, rowAt}
+use Rattle.dictionary.specs.Accepted.{pdoBarred, barred}
+use Rattle.dictionary.specs.Writes.{ownKey, written}
+use Rattle.dictionary.specs.Valid.{ValidDevice}
+use Rattle.dictionary.proofs.Accepted.{taken}
+use Rattle.position.specs.Position.{bit, scalingBit}
+use Rattle.sdo.specs.declared.reply.Effect.the-variants.{Write}
+use Rattle.sdo.specs.Reply.{carriedOut}
+use Rattle.sdo.specs.Service.{Due, none, value, confirmation, abort, answer, due}
+use Rattle.sdo.specs.Laws.{Told}
+use Rattle.sdo.proofs.Laws.{laws}
+use Rattle.head.specs.declared.Timers.{Timers}
+use Rattle.head.specs.declared.Core.{Core}
+use Rattle.head.specs.States.{operational, isIn, communication, Which, one, two, pdo, clock, atRest}
+use Rattle.head.specs.WaitingLine.{emergency, sdoReply, heartbeat, tpdo}
+use Rattle.head.specs.Timers.{inhibitTicks}
+use Rattle.head.specs.Acts.{Act, nothing, enter, reset, boot, idle, send, take, lose, time, sync, serve, timersAfter, acted}
+use Rattle.head.specs.Valid.{Below, ValidClock, ValidTimers}
+use Rattle.head.proofs.Fits.{Fits}
+use Rattle.head.proofs.Clocks.{below-counted, uncounted-valid, ticked-valid, synced-valid, written-valid}
+
+timers-are : {s : Communication} {t : Timers} → t .inhibit ≤ 6555 → Below (s .heartbeat) (t .heartbeat) → ValidClock (s .pdo1) (t .pdo1) → ValidClock (s .pdo2) (t .pdo2) → ValidTimers s t
+timers-are {s} {t} i b p q = record { inhibit = i; heartbeat = b; clocks = both-valid }
+  where
+    both-valid : (w : Which) → ValidClock (pdo s w) (clock t w)
+    both-valid one = p
+    both-valid two = q
+
+pub resting : (s : Communication) → ValidTimers s atRest
+resting s = timers-are (omega arith) (inl refl) (uncounted-valid (s .pdo1)) (uncounted-valid (s .pdo2))
+
+inhibit-ticks : (n : ℕ) → n ≤ 0xFFFF → inhibitTicks n ≤ 6555
+inhibit-ticks n h = by (λ t. t ≤ 6555) (eqb n 0) (λ _. omega arith) (λ _. omega arith)
+
+-- 6200h is 1800-5 under a second index
+own-key : (k : ℕ) → eqb (ownKey k) 0x1800_05 ≡ (eqb k 0x1800_05 || eqb k 0x6200_00)
+own-key k = test (eqb k 0x6200_00) (λ e. rw e (sym (or-true (eqb k 0x1800_05)))) (λ e. rw e (sym (or-false (eqb k 0x1800_05))))
+
+own-free : (p : Pdo) (k n : ℕ) → pdoBarred 0x1800 p k n ≡ false → pdoBarred 0x1800 p (ownKey k) n ≡ false
+own-free p k n free = by (λ j. pdoBarred 0x1800 p j n ≡ false) (eqb k 0x6200_00) (λ _. refl) (λ _. free)
+
+module _ (c : Core) (v : ValidTimers (communication c) (c .timers)) where
+  write-valid : (k n : ℕ) → barred (c .device) k n ≡ false → ValidTimers (carriedOut (c .device) (Write k n) .settings .communication) (timersAfter c (Write k n))
+  unfolding written
+  write-valid k n free =
+      let d = c .device in
+      let scaling = (eqb k 0x6002_00 || eqb k 0x6005_01) && not (bit scalingBit (d .settings .profile .operating)) in
+      let preset = eqb k 0x6003_00 && missing d in
+      let pdo1 = pdoBarred 0x1800 (communication c .pdo1) k n in
+      let pdo2 = pdoBarred 0x1801 (communication c .pdo2) k n in
+      let free2 = neither (scaling || preset || pdo1) pdo2 free in
+      let free1 = neither (scaling || preset) pdo1 (free2 .0) in
+      timers-are (v .inhibit) (by₂ Below (eqb k 0x1017_00) (λ _. inl refl) (λ _. v .heartbeat))
+      (rw (← own-key k) (written-valid (v .clocks one) 0x1800 (ownKey k) n (own-free (communication c .pdo1) k n (free1 .1))))
+      (written-valid (v .clocks two) 0x1801 k n (free2 .1))
+
+  told-valid : (o : Bool) (f : List ℕ) (x : Found) (y : Due) → Told (c .device) o f x y
+      → let e = answer f y .effect in ValidTimers (carriedOut (c .device) e .settings .communication) (timersAfter c e)
+  told-valid o f x none t = v
+  told-valid o f x (value w n) t = v
+  told-valid o f x (confirmation k n) t = write-valid k n (rw (t .key) (taken (c .device) (rowAt (t .place)) n (t .takes .unrefused) .1))
+  told-valid o f x (abort code) t = v
+
+  pub timers-act : (atSlot : Bool) (a : Act) → Fits atSlot c a → ValidDevice (c .device) → ValidTimers (communication (acted c a)) (acted c a .timers)
+  timers-act b nothing f d = v
+  timers-act b (enter g) f d = timers-are (v .inhibit) (v .heartbeat) (uncounted-valid _) (uncounted-valid _)
+  timers-act b (reset r) f d = resting _
+  timers-act b boot f d = resting _
+  timers-act b idle f d = v
+  timers-act b (send emergency) f d =
+      timers-are (inhibit-ticks _ (d .settings .communication .inhibit)) (v .heartbeat) (v .clocks one) (v .clocks two)
+  timers-act b (send sdoReply) f d = v
+  timers-act b (send heartbeat) f d = v
+  timers-act b (send (tpdo w)) f d = v
+  timers-act b (take r) f d = v
+  timers-act b lose f d = v
+  timers-act b time f d =
+      let runs = isIn operational c in
+      timers-are (omega (arith, v .inhibit)) (below-counted _ _) (ticked-valid (v .clocks one) runs) (ticked-valid (v .clocks two) runs)
+  timers-act b sync f d =
+      timers-are (v .inhibit) (v .heartbeat) (synced-valid (v .clocks one)) (synced-valid (v .clocks two))
+  timers-act b (serve s) f d =
+      let o = isIn operational c in
+      let q = f .1 .0 in
+      rw (f .1 .1) (told-valid o q _ (due (c .device) o q) (laws (c .device) o q .told))

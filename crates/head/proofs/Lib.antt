@@ -1,0 +1,15 @@
+pub mod Periods
+pub mod Nothing
+pub mod Waits
+pub mod Fits
+pub mod States
+pub mod Device
+pub mod Clocks
+pub mod Counts
+pub mod Valid
+pub mod Settling
+pub mod Commands
+pub mod Requests
+pub mod Meaning
+pub mod Slots
+pub mod Called

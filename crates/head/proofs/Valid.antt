@@ -1,0 +1,105 @@
+-- Power-up makes a valid head, and each call leaves one: an act that fits does. A clause for each act, where acts differ.
+use Prim.Native.Nat.{ℕ, _≤_}
+use native.Mathlib.Omega.{arith}
+use mathlib.Core.Path.{_≡_, refl, sym, _∙_}
+use mathlib.Core.Bool.{Bool, true, false, not, _&&_, _||_}
+use Rattle.cases.proofs.Cases.{true-false}
+use Rattle.dictionary.specs.declared.Identity.{Identity}
+use Rattle.dictionary.specs.Settings.{factory}
+use Rattle.dictionary.specs.Valid.{ValidIdentity}
+use Rattle.dictionary.proofs.Laws.{laws as dictionary-laws}
+use Rattle.waiting.specs.Line.{places}
+use Rattle.waiting.proofs.Laws.{laws}
+use Rattle.head.specs.declared.Head.{Head}
+use Rattle.head.specs.States.{one, two, started}
+use Rattle.head.specs.WaitingLine.{Kind, emergency, sdoReply, heartbeat, tpdo, flag, may}
+use Rattle.head.specs.Acts.{Act, nothing, enter, reset, boot, idle, send, take, lose, time, sync, serve, acted, moments, act}
+use Rattle.head.specs.Calls.{Call, isSlot, meant, step}
+use Rattle.head.specs.Valid.{waits, Valid}
+use Rattle.head.proofs.Nothing.{act-nothing}
+use Rattle.head.proofs.Waits.{sends, holds-act, waits-act}
+use Rattle.head.proofs.Fits.{Fits, fits}
+use Rattle.head.proofs.States.{named-act, fresh-act}
+use Rattle.head.proofs.Device.{device-act}
+use Rattle.head.proofs.Counts.{resting, timers-act}
+
+-- A kind that waits afterwards may: m its moment, y and z whether it may before and after, w whether it waited.
+stays-may : (m y z s w : Bool) → (w ≡ true → y ≡ true) → ((m && z) || (not (y && not z) && (s && w))) ≡ true → z ≡ true
+stays-may m y true s w o e = refl
+stays-may true true false s w o e = e
+stays-may true false false s true o e = o refl
+stays-may true false false true false o e = e
+stays-may true false false false false o e = e
+stays-may false true false s w o e = e
+stays-may false false false s true o e = o refl
+stays-may false false false true false o e = e
+stays-may false false false false false o e = e
+
+module _ (b : Bool) (h : Head) where
+  -- any call that does something is the emergency's moment
+  joins-now : (a : Act) → Valid h → flag (moments (h .core) a) emergency ≡ true → may (acted (h .core) a) emergency ≡ true → waits (act b h a) emergency ≡ true
+  joins-now a v m e = rw (waits-act b h a v emergency, m, e)
+
+  urgent-act : (a : Act) → Fits b (h .core) a → Valid h → may (acted (h .core) a) emergency ≡ true → waits (act b h a) emergency ≡ true
+  urgent-act nothing f v e = rw (f, act-nothing h) (v .urgent e)
+  urgent-act (enter g) f v e = joins-now (enter g) v refl e
+  urgent-act (reset r) f v e = joins-now (reset r) v refl e
+  urgent-act boot f v e = joins-now boot v refl e
+  urgent-act idle f v e = joins-now idle v refl e
+  urgent-act (send k) f v e = joins-now (send k) v refl e
+  urgent-act (take r) f v e = joins-now (take r) v refl e
+  urgent-act lose f v e = joins-now lose v refl e
+  urgent-act time f v e = joins-now time v refl e
+  urgent-act sync f v e = joins-now sync v refl e
+  urgent-act (serve s) f v e = joins-now (serve s) v refl e
+
+  only-act : (a : Act) → Valid h → (k : Kind) → waits (act b h a) k ≡ true → may (acted (h .core) a) k ≡ true
+  only-act a v k e =
+      let c = h .core in
+      stays-may (flag (moments c a) k) (may c k) (may (acted c a) k) (not (sends b h k)) (waits h k) (v .only k) (sym (waits-act b h a v k) ∙ e)
+
+  pub valid-act : (a : Act) → Fits b (h .core) a → Valid h → Valid (act b h a)
+  unfolding act
+  valid-act a f v =
+      record {
+        device = device-act b (h .core) a f (v .device);
+        named = named-act (h .core) a (v .named);
+        timers = timers-act (h .core) (v .timers) b a f (v .device);
+        fresh = fresh-act b (h .core) a f (v .fresh);
+        line = let held = holds-act b h a v in rw (laws places .all held) held;
+        only = only-act a v;
+        urgent = urgent-act a f v;
+      }
+
+pub valid-step : (h : Head) (c : Call) → Valid h → Valid (step h c)
+valid-step h c v = valid-act (isSlot c) h (meant h c) (fits h c) v
+
+pub valid-started : (n : ℕ) (i : Identity) → 1 ≤ n → n ≤ 127 → ValidIdentity i → Valid (started n i)
+valid-started n i low high named =
+    let settings = dictionary-laws .factory-valid n low high in
+    record {
+      device =
+          record {
+            node-low = low;
+            node-high = high;
+            identity = named;
+            raw = omega arith;
+            raw-missing = λ _. refl;
+            errors = omega arith;
+            settings = settings;
+            saved = settings;
+          };
+      named = refl;
+      timers = resting (factory n .communication);
+      fresh = λ _. (refl, refl);
+      line = laws places .none;
+      only = none-waits;
+      urgent = λ e. true-false (sym e);
+    }
+  where
+    none-waits : (k : Kind) → waits (started n i) k ≡ true → may (started n i .core) k ≡ true
+    none-waits emergency e = e
+    none-waits sdoReply e = e
+    none-waits heartbeat e = e
+    none-waits (tpdo one) e = e
+    none-waits (tpdo two) e = e

@@ -1,0 +1,15 @@
+use borrow.Author.Needs.{needs}
+use Rattle.head.proofs.emergency.may.Statement.{statement}
+use Rattle.head.proofs.emergency.may.Tie as tie
+
+is-live-requires : tie.Need-is-live-requires
+is-live-requires c κs = search needs
+
+is-on-requires : tie.Need-is-on-requires
+is-on-requires c κs = search needs
+
+returns : tie.Need-returns
+returns c = rw (c .before .before .is-on .ensures, c .before .before .before .is-live .ensures)
+
+pub may-spec : {M : Type 1} → statement M
+may-spec = tie.close (tie.spec is-live-requires is-on-requires returns)

@@ -1,0 +1,12 @@
+use borrow.Author.Needs.{needs}
+use Rattle.head.proofs.sending.waits.Statement.{statement}
+use Rattle.head.proofs.sending.waits.Tie as tie
+
+is-initialising-requires : tie.Need-is-initialising-requires
+is-initialising-requires c κs = search needs
+
+returns : tie.Need-returns
+returns c = rw (c .is-initialising .ensures)
+
+pub waits-spec : {M : Type 1} → statement M
+waits-spec = tie.close (tie.spec is-initialising-requires returns)

@@ -1,0 +1,34 @@
+use Rattle.head.proofs.Called.{ticks-idle, ticks-on}
+use mathlib.Core.Path.{sym, _∙_}
+use borrow.Author.Needs.{needs}
+use Rattle.head.proofs.tick.Statement.{statement}
+use Rattle.head.proofs.tick.Tie as tie
+
+is-initialising-requires : tie.Need-is-initialising-requires
+is-initialising-requires c κs = search needs
+
+returns : tie.Need-returns
+returns c = let a = c .before .before .before in ticks-idle (a .args .head) (a .pre) (sym (c .before .is-initialising .ensures) ∙ c .if1 .taken)
+
+ticked-requires : tie.Need-ticked-requires
+ticked-requires c κs = search needs
+
+due-requires : tie.Need-due-requires
+due-requires c κs = search needs
+
+settled-requires : tie.Need-settled-requires
+settled-requires c κs = search needs
+
+returns-2 : tie.Need-returns-2
+returns-2 c = let a = c .before .before .before .before .before .before .before in rw (c .settled .ensures, c .before .due .ensures, c .before .before .ticked .ensures) (ticks-on (a .args .head) (a .pre) (sym (c .before .before .before .before .before .is-initialising .ensures) ∙ c .before .before .before .before .if1 .left))
+
+pub tick-spec : {M : Type 1} → statement M
+tick-spec =
+    tie.close
+    (tie.spec
+    is-initialising-requires
+    returns
+    ticked-requires
+    due-requires
+    settled-requires
+    returns-2)

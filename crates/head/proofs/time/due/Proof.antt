@@ -1,0 +1,18 @@
+use borrow.Author.Needs.{needs}
+use Rattle.head.proofs.time.due.Statement.{statement}
+use Rattle.head.proofs.time.due.Tie as tie
+
+due-requires : tie.Need-due-requires
+due-requires c κs = search needs
+
+event-due-requires : tie.Need-event-due-requires
+event-due-requires c κs = search needs
+
+event-due-requires-2 : tie.Need-event-due-requires-2
+event-due-requires-2 c κs = search needs
+
+returns : tie.Need-returns
+returns c = rw (c .event-due2 .ensures, c .before .event-due .ensures, c .before .before .due .ensures)
+
+pub due-spec : {M : Type 1} → statement M
+due-spec = tie.close (tie.spec due-requires event-due-requires event-due-requires-2 returns)

@@ -1,0 +1,32 @@
+use borrow.Author.Needs.{needs}
+use Rattle.head.proofs.time.ticked.Statement.{statement}
+use Rattle.head.proofs.time.ticked.Tie as tie
+
+is-operational-requires : tie.Need-is-operational-requires
+is-operational-requires c κs = search needs
+
+one-less-requires : tie.Need-one-less-requires
+one-less-requires c κs = search needs
+
+counted-requires : tie.Need-counted-requires
+counted-requires c κs = search needs
+
+run-requires : tie.Need-run-requires
+run-requires c κs = search needs
+
+run-requires-2 : tie.Need-run-requires-2
+run-requires-2 c κs = search needs
+
+returns : tie.Need-returns
+returns c = rw (c .run2 .ensures, c .before .run .ensures, c .before .before .counted .ensures, c .before .before .before .one-less .ensures, c .before .before .before .before .is-operational .ensures)
+
+pub ticked-spec : {M : Type 1} → statement M
+ticked-spec =
+    tie.close
+    (tie.spec
+    is-operational-requires
+    one-less-requires
+    counted-requires
+    run-requires
+    run-requires-2
+    returns)

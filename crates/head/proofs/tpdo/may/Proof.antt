@@ -1,0 +1,15 @@
+use borrow.Author.Needs.{needs}
+use Rattle.head.proofs.tpdo.may.Statement.{statement}
+use Rattle.head.proofs.tpdo.may.Tie as tie
+
+is-operational-requires : tie.Need-is-operational-requires
+is-operational-requires c κs = search needs
+
+is-on-requires : tie.Need-is-on-requires
+is-on-requires c κs = search needs
+
+returns : tie.Need-returns
+returns c = rw (c .before .is-on .ensures, c .before .before .is-operational .ensures)
+
+pub may-spec : {M : Type 1} → statement M
+may-spec = tie.close (tie.spec is-operational-requires is-on-requires returns)

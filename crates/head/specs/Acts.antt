@@ -1,0 +1,189 @@
+-- What a call can do to a head: the acts, what each does to all but the line, whose moment it is, and how the line then settles.
+use Prim.Native.Nat.{ℕ, suc}
+use lib.Dec.{eqb, ltb}
+use mathlib.Core.Bool.{Bool, true, false, not, _&&_, _||_, cond}
+use mathlib.Core.List.{List, [], _∷_}
+use mathlib.Core.Option.{Option, none, some}
+use Rattle.can.specs.declared.Frame.{Frame}
+use Rattle.dictionary.specs.declared.Device.{Device}
+use Rattle.dictionary.specs.declared.Reading.{Reading}
+use Rattle.dictionary.specs.declared.Settings.{Settings}
+use Rattle.sdo.specs.declared.reply.Effect.{Effect}
+use Rattle.sdo.specs.declared.reply.Effect.the-variants.{Nothing, Reply, Write}
+use Rattle.sdo.specs.declared.reply.Served.{Served}
+use Rattle.sdo.specs.Reply.{carriedOut}
+use Rattle.waiting.specs.Calls.{afterIn, withdrawsIn, joinsIn}
+use Rattle.head.specs.declared.nmt.Nmt.{Nmt}
+use Rattle.head.specs.declared.Timers.{Timers}
+use Rattle.head.specs.declared.Core.{Core}
+use Rattle.head.specs.declared.Head.{Head}
+use Rattle.head.specs.declared.settle.Flags.{Flags}
+use Rattle.head.specs.States.{Goal, operational, preOperational, state, initialising, Reset, restored, communication, good, Which, one, two, pdo, clock, uncounted, atRest, missingReading}
+use Rattle.head.specs.WaitingLine.{Kind, emergency, sdoReply, heartbeat, tpdo, those, flag, flags, may, mays, bootUpFrame, frameOf}
+use Rattle.head.specs.Timers.{inhibitTicks, completes, synchronous, eventDue, syncDue, timersTicked, timersSynced, timersWritten}
+
+pub data Act : Type 0 where
+  -- a call that has no effect
+  nothing : Act
+  -- a state is entered by a command
+  enter : Goal → Act
+  reset : Reset → Act
+  -- the boot-up frame is sent
+  boot : Act
+  -- a slot, and none waits
+  idle : Act
+  -- a kind is sent
+  send : Kind → Act
+  -- a sample: a raw position, or missing
+  take : ℕ → Act
+  lose : Act
+  time : Act
+  sync : Act
+  -- a service request gets its reply, and has its effect
+  serve : Served → Act
+
+-- the core with another state, and with other timers
+abbrev pub core : Core → Device → Nmt → Bool → Timers → Core
+core c d s a t = record { device = d; nmt = s; announced = a; timers = t; reply = c .reply }
+
+abbrev pub sensed : Device → Reading → ℕ → Device
+sensed d r e = record { node = d .node; identity = d .identity; reading = r; errors = e; settings = d .settings; saved = d .saved }
+
+abbrev pub resetTo : Device → Settings → Device
+resetTo d s = record { node = d .node; identity = d .identity; reading = d .reading; errors = d .errors; settings = s; saved = d .saved }
+
+-- The PDOs are counted from entry.
+abbrev pub uncountedPdos : Timers → Timers
+uncountedPdos t = record { inhibit = t .inhibit; heartbeat = t .heartbeat; pdo1 = uncounted; pdo2 = uncounted }
+
+abbrev pub inhibited : Timers → ℕ → Timers
+inhibited t n = record { inhibit = n; heartbeat = t .heartbeat; pdo1 = t .pdo1; pdo2 = t .pdo2 }
+
+abbrev pub entered : Core → Nmt → Core
+entered c s = core c (c .device) s (c .announced) (uncountedPdos (c .timers))
+
+-- Both enter Initialising, .. end any inhibit time and forget what was announced ("good" counts as announced). Reading and error list stay.
+abbrev pub resetWith : Core → Settings → Core
+resetWith c s = core c (resetTo (c .device) s) initialising true atRest
+
+-- The slot that sends it enters Pre-operational; the heartbeat is counted from there.
+abbrev pub booted : Core → Core
+booted c = core c (c .device) (state preOperational) (c .announced) atRest
+
+-- Sending it announces the present reading. Sending starts the inhibit time.
+abbrev pub announcing : Core → Core
+announcing c = core c (c .device) (c .nmt) (good c) (inhibited (c .timers) (inhibitTicks (communication c .inhibit)))
+
+abbrev pub sending : Core → Kind → Core
+sending c emergency = announcing c
+sending c sdoReply = c
+sending c heartbeat = c
+sending c (tpdo w) = c
+
+abbrev pub taking : Core → ℕ → Core
+taking c r = core c (sensed (c .device) (record { good = true; raw = r }) (c .device .errors)) (c .nmt) (c .announced) (c .timers)
+
+-- 1003-0: count 0..4; one more per good-to-missing change
+abbrev pub errorsAfter : Device → ℕ
+errorsAfter d = cond (d .reading .good && ltb (d .errors) 4) (suc (d .errors)) (d .errors)
+
+abbrev pub losing : Core → Core
+losing c = core c (sensed (c .device) missingReading (errorsAfter (c .device))) (c .nmt) (c .announced) (c .timers)
+
+abbrev pub timing : Core → Timers → Core
+timing c t = core c (c .device) (c .nmt) (c .announced) t
+
+-- what a request's effect does to the timers
+abbrev pub timersAfter : Core → Effect → Timers
+timersAfter c Nothing = c .timers
+timersAfter c Reply = c .timers
+timersAfter c (Write k v) = timersWritten k (communication c) (carriedOut (c .device) (Write k v) .settings .communication) (c .timers)
+
+abbrev pub serving : Core → Served → Core
+serving c s =
+    record {
+      device = carriedOut (c .device) (s .effect);
+      nmt = c .nmt;
+      announced = c .announced;
+      timers = timersAfter c (s .effect);
+      reply = s .bytes;
+    }
+
+abbrev pub acted : Core → Act → Core
+acted c nothing = c
+acted c (enter g) = entered c (state g)
+acted c (reset r) = resetWith c (restored r (c .device .settings) (c .device .saved))
+acted c boot = booted c
+acted c idle = c
+acted c (send k) = sending c k
+acted c (take r) = taking c r
+acted c lose = losing c
+acted c time = timing c (timersTicked c)
+acted c sync = timing c (timersSynced c)
+acted c (serve s) = serving c s
+
+-- The moments at which a kind joins, if it may: emergency, SDO reply, heartbeat, TPDO1, TPDO2.
+-- The emergency's is any call that does something, so that it waits exactly while its condition holds.
+abbrev pub ever : Flags
+ever = flags true false false false false
+
+-- Types 254 and 255: on entering Operational
+abbrev pub entryDue : Core → Nmt → Which → Bool
+entryDue c s w = eqb (s .code) (state operational .code) && not (synchronous (pdo (communication c) w))
+
+abbrev pub entryMoments : Core → Nmt → Flags
+entryMoments c s = flags true false false (entryDue c s one) (entryDue c s two)
+
+abbrev pub timeMoments : Core → Flags
+timeMoments c =
+    flags true false (completes (communication c .heartbeat) (c .timers .heartbeat))
+    (eventDue (pdo (communication c) one) (clock (c .timers) one))
+    (eventDue (pdo (communication c) two) (clock (c .timers) two))
+
+abbrev pub syncMoments : Core → Flags
+syncMoments c =
+    flags true false false (syncDue (pdo (communication c) one) (clock (c .timers) one)) (syncDue (pdo (communication c) two) (clock (c .timers) two))
+
+abbrev pub requestMoments : Flags
+requestMoments = flags true true false false false
+
+abbrev pub moments : Core → Act → Flags
+moments c nothing = flags false false false false false
+moments c (enter g) = entryMoments c (state g)
+moments c (reset r) = ever
+moments c boot = ever
+moments c idle = ever
+moments c (send k) = ever
+moments c (take r) = ever
+moments c lose = ever
+moments c time = timeMoments c
+moments c sync = syncMoments c
+moments c (serve s) = requestMoments
+
+-- A kind goes when its condition ends; it joins when it is its moment and it may.
+abbrev pub goes : Core → Core → List ℕ
+goes before after = those (λ k. may before k && not (may after k))
+
+abbrev pub comes : Flags → Core → List ℕ
+comes due after = those (λ k. flag due k && may after k)
+
+-- a head with another core, whose line has settled; `slot`: its first was sent
+abbrev pub settledTo : Bool → Head → Core → Flags → Head
+settledTo slot h after due = record { core = after; line = afterIn slot (goes (h .core) after) (comes due after) (h .line) }
+
+unfoldable pub act : Bool → Head → Act → Head
+act slot h a = settledTo slot h (acted (h .core) a) (moments (h .core) a)
+
+-- What an act sends.
+abbrev pub frameBy : Core → Act → Option Frame
+frameBy c nothing = none
+frameBy c (enter g) = none
+frameBy c (reset r) = none
+frameBy c boot = some (bootUpFrame c)
+frameBy c idle = none
+frameBy c (send k) = some (frameOf c k)
+frameBy c (take r) = none
+frameBy c lose = none
+frameBy c time = none
+frameBy c sync = none
+frameBy c (serve s) = none

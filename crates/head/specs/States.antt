@@ -1,0 +1,136 @@
+-- 01's chapter "States": the NMT states, power-up, the commands, and what a reset restores.
+use Prim.Native.Nat.{ℕ, _+_}
+use lib.Dec.{eqb}
+use mathlib.Core.Bool.{Bool, true, false, not, _&&_, _||_, cond}
+use mathlib.Core.List.{List, [], _∷_}
+use lib.ListN.{getD}
+use Rattle.cases.specs.Cases.{firstOf}
+use Rattle.can.specs.declared.Received.{Received}
+use Rattle.dictionary.specs.declared.Communication.{Communication}
+use Rattle.dictionary.specs.declared.Identity.{Identity}
+use Rattle.dictionary.specs.declared.Pdo.{Pdo}
+use Rattle.dictionary.specs.declared.Reading.{Reading}
+use Rattle.dictionary.specs.declared.Settings.{Settings}
+use Rattle.dictionary.specs.Settings.{factory}
+use Rattle.waiting.specs.Line.{places}
+use Rattle.waiting.specs.Places.{pad}
+use Rattle.head.specs.declared.nmt.Nmt.{Nmt}
+use Rattle.head.specs.declared.Clock.{Clock}
+use Rattle.head.specs.declared.Timers.{Timers}
+use Rattle.head.specs.declared.Core.{Core}
+use Rattle.head.specs.declared.Head.{Head}
+
+-- Each NMT state is named with its heartbeat code: Stopped 04h, Operational 05h, Pre-operational 7Fh. Initialising sends its 00h as the boot-up frame.
+abbrev pub initialisingCode : ℕ
+initialisingCode = 0x00
+
+-- The states that a command enters.
+pub data Goal : Type 0 where
+  operational : Goal
+  stopped : Goal
+  preOperational : Goal
+
+abbrev pub code : Goal → ℕ
+code operational = 0x05
+code stopped = 0x04
+code preOperational = 0x7F
+
+abbrev pub state : Goal → Nmt
+state g = record { code = code g }
+
+abbrev pub initialising : Nmt
+initialising = record { code = initialisingCode }
+
+abbrev pub isIn : Goal → Core → Bool
+isIn g c = eqb (c .nmt .code) (code g)
+
+abbrev pub isInitialising : Core → Bool
+isInitialising c = eqb (c .nmt .code) initialisingCode
+
+-- Pre-operational or Operational
+abbrev pub isLive : Core → Bool
+isLive c = isIn preOperational c || isIn operational c
+
+abbrev pub node : Core → ℕ
+node c = c .device .node
+
+abbrev pub communication : Core → Communication
+communication c = c .device .settings .communication
+
+abbrev pub good : Core → Bool
+good c = c .device .reading .good
+
+-- the two PDOs
+pub data Which : Type 0 where
+  one : Which
+  two : Which
+
+abbrev pub pdo : Communication → Which → Pdo
+pdo s one = s .pdo1
+pdo s two = s .pdo2
+
+abbrev pub clock : Timers → Which → Clock
+clock t one = t .pdo1
+clock t two = t .pdo2
+
+-- no inhibit time runs, and nothing is counted
+abbrev pub uncounted : Clock
+uncounted = record { ticks = 0; syncs = 0 }
+
+abbrev pub atRest : Timers
+atRest = record { inhibit = 0; heartbeat = 0; pdo1 = uncounted; pdo2 = uncounted }
+
+abbrev pub missingReading : Reading
+missingReading = record { good = false; raw = 0 }
+
+-- Power-up takes a node number N and four identity numbers. It starts in Initialising with factory settings, the saved set equal to them,
+-- the reading missing, the error list empty, "good" counted as announced.
+abbrev pub startedCore : ℕ → Identity → Core
+startedCore n i =
+    record {
+      device =
+          record {
+            node = n;
+            identity = i;
+            reading = missingReading;
+            errors = 0;
+            settings = factory n;
+            saved = factory n;
+          };
+      nmt = initialising;
+      announced = true;
+      timers = atRest;
+      reply = pad 8 [];
+    }
+
+-- Only the boot-up frame waits: Initialising is that it does, and no kind stands in the line.
+abbrev pub started : ℕ → Identity → Head
+started n i = record { core = startedCore n i; line = pad places [] }
+
+-- 81h sets all settings to the saved set; 82h only those below 2000h.
+pub data Reset : Type 0 where
+  ofNode : Reset
+  ofCommunication : Reset
+
+abbrev pub restored : Reset → Settings → Settings → Settings
+restored ofNode present saved = saved
+restored ofCommunication present saved = record { communication = saved .communication; profile = present .profile }
+
+-- 01h Operational, 02h Stopped, 80h Pre-operational, 81h reset node, 82h reset communication; others have no effect.
+pub data Command : Type 0 where
+  noCommand : Command
+  start : Goal → Command
+  restart : Reset → Command
+
+abbrev pub resetCommand : ℕ → Command
+resetCommand b = firstOf ((eqb b 0x81, restart ofNode) ∷ (eqb b 0x82, restart ofCommunication) ∷ []) noCommand
+
+abbrev pub command : ℕ → Command
+command b = firstOf ((eqb b 0x01, start operational) ∷ (eqb b 0x02, start stopped) ∷ (eqb b 0x80, start preOperational) ∷ []) (resetCommand b)
+
+abbrev pub byteOf : Received → ℕ → ℕ
+byteOf f i = getD (f .bytes) i 0
+
+-- NMT command: identifier 000h, data, length 2, second byte 0 or N.
+abbrev pub commandOf : ℕ → Received → Command
+commandOf n f = cond (eqb (f .length) 2 && (eqb (byteOf f 1) 0 || eqb (byteOf f 1) n)) (command (byteOf f 0)) noCommand

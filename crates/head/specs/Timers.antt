@@ -1,0 +1,85 @@
+-- 01's chapter "The waiting line": the inhibit time, the heartbeat's ticks, and the ticks and SYNCs of a PDO.
+use Prim.Native.Nat.{ℕ, suc, _+_, _-_, _/_}
+use lib.Dec.{eqb, ltb}
+use mathlib.Core.Bool.{Bool, not, _&&_, _||_, cond}
+use Rattle.dictionary.specs.declared.Pdo.{Pdo}
+use Rattle.dictionary.specs.declared.Communication.{Communication}
+use Rattle.dictionary.specs.Accepted.{within, on}
+use Rattle.head.specs.declared.Clock.{Clock}
+use Rattle.head.specs.declared.Timers.{Timers}
+use Rattle.head.specs.declared.Core.{Core}
+use Rattle.head.specs.States.{Which, one, two, operational, isIn, communication, pdo, clock}
+
+-- for 1015h = v (100 µs units) none if v = 0, else v/10 rounded up, plus 1, ticks
+abbrev pub inhibitTicks : ℕ → ℕ
+inhibitTicks v = cond (eqb v 0) 0 ((v + 9) / 10 + 1)
+
+-- every n: one more is counted, and at n it begins again; with n = 0 nothing is
+abbrev pub counted : ℕ → ℕ → ℕ
+counted n count = cond (ltb (suc count) n) (suc count) 0
+
+-- the count comes to n
+abbrev pub completes : ℕ → ℕ → Bool
+completes n count = eqb (suc count) n
+
+-- Types 1..240; the others are 254 and 255
+abbrev pub synchronous : Pdo → Bool
+synchronous p = within 1 240 (p .transmission)
+
+-- Types 254 and 255: every E ticks (sub 5 = E > 0)
+abbrev pub eventDue : Pdo → Clock → Bool
+eventDue p k = not (synchronous p) && completes (p .event) (k .ticks)
+
+-- Types 1..240: at each n-th SYNC
+abbrev pub syncDue : Pdo → Clock → Bool
+syncDue p k = synchronous p && completes (p .transmission) (k .syncs)
+
+abbrev pub clockTicked : Pdo → Clock → Clock
+clockTicked p k = record { ticks = counted (p .event) (k .ticks); syncs = k .syncs }
+
+abbrev pub clockSynced : Pdo → Clock → Clock
+clockSynced p k = record { ticks = k .ticks; syncs = cond (on (p .identifier) && synchronous p) (counted (p .transmission) (k .syncs)) (k .syncs) }
+
+abbrev pub ifRunning : Bool → Pdo → Clock → Clock
+ifRunning runs p k = cond runs (clockTicked p k) k
+
+-- A tick: the inhibit time has one less to run, the heartbeat's count goes on, and in Operational the PDOs'.
+abbrev pub timersTicked : Core → Timers
+timersTicked c =
+    record {
+      inhibit = c .timers .inhibit - 1;
+      heartbeat = counted (communication c .heartbeat) (c .timers .heartbeat);
+      pdo1 = ifRunning (isIn operational c) (pdo (communication c) one) (c .timers .pdo1);
+      pdo2 = ifRunning (isIn operational c) (pdo (communication c) two) (c .timers .pdo2);
+    }
+
+abbrev pub timersSynced : Core → Timers
+timersSynced c =
+    record {
+      inhibit = c .timers .inhibit;
+      heartbeat = c .timers .heartbeat;
+      pdo1 = clockSynced (pdo (communication c) one) (c .timers .pdo1);
+      pdo2 = clockSynced (pdo (communication c) two) (c .timers .pdo2);
+    }
+
+-- bit 31 of sub 1 goes from 1 to 0
+abbrev pub switchedOn : Pdo → Pdo → Bool
+switchedOn before after = not (on (before .identifier)) && on (after .identifier)
+
+-- counted from switching on, or from a write to sub 5; SYNCs from switching on
+abbrev pub clockWritten : Bool → Pdo → Pdo → Clock → Clock
+clockWritten sub5 before after k =
+    record {
+      ticks = cond (sub5 || switchedOn before after) 0 (k .ticks);
+      syncs = cond (switchedOn before after) 0 (k .syncs);
+    }
+
+-- A write to the entry of key k: the heartbeat is counted from its write. Writing 1015h doesn't alter a running inhibit time.
+abbrev pub timersWritten : ℕ → Communication → Communication → Timers → Timers
+timersWritten k before after t =
+    record {
+      inhibit = t .inhibit;
+      heartbeat = cond (eqb k 0x1017_00) 0 (t .heartbeat);
+      pdo1 = clockWritten (eqb k 0x1800_05 || eqb k 0x6200_00) (before .pdo1) (after .pdo1) (t .pdo1);
+      pdo2 = clockWritten (eqb k 0x1801_05) (before .pdo2) (after .pdo2) (t .pdo2);
+    }

@@ -1,0 +1,53 @@
+-- A valid head: what power-up and the calls leave.
+use Prim.Native.Nat.{ℕ, _<_, _≤_}
+use mathlib.Core.Path.{_≡_}
+use mathlib.Core.Bool.{Bool, true, _||_}
+use mathlib.Core.Logic.{_⊎_}
+use Rattle.dictionary.specs.declared.Communication.{Communication}
+use Rattle.dictionary.specs.declared.Pdo.{Pdo}
+use Rattle.dictionary.specs.Accepted.{on}
+use Rattle.dictionary.specs.Valid.{ValidDevice}
+use Rattle.waiting.specs.Line.{places, has}
+use Rattle.waiting.specs.Places.{waiting, Holds}
+use Rattle.head.specs.declared.Clock.{Clock}
+use Rattle.head.specs.declared.Timers.{Timers}
+use Rattle.head.specs.declared.Core.{Core}
+use Rattle.head.specs.declared.Head.{Head}
+use Rattle.head.specs.States.{operational, stopped, preOperational, isIn, isInitialising, communication, Which, pdo, clock, atRest}
+use Rattle.head.specs.WaitingLine.{Kind, emergency, number, may}
+
+-- whether a kind waits
+abbrev pub waits : Head → Kind → Bool
+waits h k = has (number k) (waiting (h .line))
+
+-- a named state
+abbrev pub isNamed : Core → Bool
+isNamed c = isInitialising c || isIn stopped c || isIn operational c || isIn preOperational c
+
+-- a count of n stands below n, or at 0
+abbrev pub Below : ℕ → ℕ → Type 0
+Below n count = (count ≡ 0) ⊎ (count < n)
+
+pub record ValidClock (p : Pdo) (k : Clock) : Type 0 where
+  pub ticks : Below (p .event) (k .ticks)
+  -- while the PDO is on: its type cannot be written then
+  pub syncs : on (p .identifier) ≡ true → Below (p .transmission) (k .syncs)
+
+pub record ValidTimers (s : Communication) (t : Timers) : Type 0 where
+  -- 65,535 units of 100 µs
+  pub inhibit : t .inhibit ≤ 6555
+  pub heartbeat : Below (s .heartbeat) (t .heartbeat)
+  pub clocks : (w : Which) → ValidClock (pdo s w) (clock t w)
+
+pub record Valid (h : Head) : Type 0 where
+  pub device : ValidDevice (h .core .device)
+  pub named : isNamed (h .core) ≡ true
+  pub timers : ValidTimers (communication (h .core)) (h .core .timers)
+  -- In Initialising timers stand, no inhibit time runs, and "good" counts as announced.
+  pub fresh : isInitialising (h .core) ≡ true → (h .core .announced ≡ true) × (h .core .timers ≡ atRest)
+  -- each at most once, and empty places behind them
+  pub line : Holds places (h .line) (waiting (h .line))
+  -- a kind waits only if it may
+  pub only : (k : Kind) → waits h k ≡ true → may (h .core) k ≡ true
+  -- the emergency waits exactly while its condition holds
+  pub urgent : may (h .core) emergency ≡ true → waits h emergency ≡ true

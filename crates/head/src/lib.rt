@@ -1,0 +1,205 @@
+//! The head by value: power-up, frame received, tick, sample, slot.
+ghost use mathlib.Core.Path.{_≡_};
+ghost use mathlib.Core.Bool.{false};
+ghost use Rattle.position.specs.Profile.{ValidProfile};
+ghost use Rattle.head.specs.Acts.{act};
+ghost use Rattle.head.specs.Calls.{heardUnrefused as heardAs, poweredUp, received, ticked, sampled, slotted};
+ghost use Rattle.head.specs.Valid.{Valid};
+use crate::nmt::Nmt;
+use crate::settle::Flags;
+use can::Bytes;
+use can::Frame;
+use can::Received;
+use dictionary::Device;
+use dictionary::Identity;
+use waiting::Line;
+
+mod emergency;
+mod heartbeat;
+pub mod nmt;
+mod sending;
+mod service;
+mod settle;
+mod sync;
+mod tape;
+mod time;
+mod tpdo;
+
+// What was counted of a PDO since entry to Operational or since it was switched on; the ticks also since a write to its sub 5.
+#[repr(C)]
+pub struct Clock {
+    pub ticks: u32,
+    pub syncs: u32,
+}
+
+// The inhibit time's ticks left, and the ticks of the heartbeat since its write or since boot-up.
+#[repr(C)]
+pub struct Timers {
+    pub inhibit: u32,
+    pub heartbeat: u32,
+    pub pdo1: Clock,
+    pub pdo2: Clock,
+}
+
+// All but the line. `announced` is whether the reading last announced was good. `reply` holds the bytes of the SDO reply last made.
+#[repr(C)]
+pub struct Core {
+    pub device: Device,
+    pub nmt: Nmt,
+    pub announced: bool,
+    pub timers: Timers,
+    pub reply: Bytes,
+}
+
+#[repr(C)]
+pub struct Head {
+    pub core: Core,
+    pub line: Line,
+}
+
+// A refusal's number, 0 for none, and the head.
+#[repr(C)]
+pub struct Answer {
+    pub refusal: u8,
+    pub head: Head,
+}
+
+// The frame to send, all 0 where none waits, and the head.
+#[repr(C)]
+pub struct Sent {
+    pub waited: bool,
+    pub frame: Frame,
+    pub head: Head,
+}
+
+// What the sensor gives.
+pub enum Sensor {
+    Missing,
+    Raw(u32),
+}
+
+pub const BAD_SAMPLE: u8 = 3;
+
+pub const BAD_NODE: u8 = 4;
+
+const HIGHEST_RAW: u32 = 1_048_575;
+
+pub fn power_up(node: u8, identity: Identity) -> Answer
+    ensures { λ r. ⌜ r ≡ poweredUp node identity ⌝ }
+    ensures { λ r. ⌜ Valid (r .head) ⌝ }
+{
+    if (1 <= node) & (node <= 127) {
+        return Answer {
+            refusal: can::NO_REFUSAL,
+            head: nmt::started(node, identity),
+        };
+    }
+    let none = Identity {
+        vendor: 0,
+        product: 0,
+        revision: 0,
+        serial: 0,
+    };
+    Answer {
+        refusal: BAD_NODE,
+        head: nmt::started(1, none),
+    }
+}
+
+pub fn receive(head: Head, frame: Received) -> Answer
+    requires { ⌜ Valid head ⌝ }
+    ensures { λ r. ⌜ r ≡ received head frame ⌝ }
+    ensures { λ r. ⌜ Valid (r .head) ⌝ }
+{
+    let refusal = can::refusal(frame);
+    if refusal != can::NO_REFUSAL {
+        return Answer { refusal, head };
+    }
+    Answer {
+        refusal,
+        head: heard(head, frame),
+    }
+}
+
+fn heard(head: Head, frame: Received) -> Head
+    requires { ⌜ ValidProfile (head .core .device .settings .profile) ⌝ }
+    ensures { λ r. ⌜ r ≡ act false head (heardAs head frame) ⌝ }
+{
+    let state = head.core.nmt;
+    if frame.extended | frame.remote | nmt::is_initialising(state) {
+        return head;
+    }
+    if frame.identifier == nmt::COMMAND {
+        return nmt::commanded(head, frame);
+    }
+    if frame.identifier == sync::SYNC {
+        return sync::synchronised(head, frame.length);
+    }
+    if frame.identifier == service::REQUEST + head.core.device.node as u32 {
+        return service::requested(head, frame);
+    }
+    head
+}
+
+pub fn tick(head: Head) -> Head
+    requires { ⌜ Valid head ⌝ }
+    ensures { λ r. ⌜ r ≡ ticked head ⌝ }
+    ensures { λ r. ⌜ Valid r ⌝ }
+{
+    let state = head.core.nmt;
+    if nmt::is_initialising(state) {
+        return head;
+    }
+    let core = head.core;
+    settle::settled(head, time::ticked(core), time::due(core))
+}
+
+pub fn sample(head: Head, sensor: Sensor) -> Answer
+    requires { ⌜ Valid head ⌝ }
+    ensures { λ r. ⌜ r ≡ sampled head sensor ⌝ }
+    ensures { λ r. ⌜ Valid (r .head) ⌝ }
+{
+    let Sensor::Raw(raw) = sensor else {
+        return Answer {
+            refusal: can::NO_REFUSAL,
+            head: tape::lost(head),
+        };
+    };
+    if HIGHEST_RAW < raw {
+        return Answer {
+            refusal: BAD_SAMPLE,
+            head,
+        };
+    }
+    Answer {
+        refusal: can::NO_REFUSAL,
+        head: tape::taken(head, raw),
+    }
+}
+
+pub fn slot(head: Head) -> Sent
+    requires { ⌜ Valid head ⌝ }
+    ensures { λ r. ⌜ r ≡ slotted head ⌝ }
+    ensures { λ r. ⌜ Valid (r .head) ⌝ }
+{
+    let core = head.core;
+    let line = head.line;
+    let kind = waiting::first(line);
+    let next = sending::after(core, kind);
+    let frame = sending::frame(core, kind);
+    let due = settle::emergency_only();
+    let left = settle::settle(
+        waiting::taken(line),
+        settle::mays(core),
+        settle::mays(next),
+        due,
+    );
+    Sent {
+        waited: sending::waits(core, kind),
+        frame,
+        head: Head {
+            core: next,
+            line: left,
+        },
+    }
+}

@@ -1,0 +1,128 @@
+//! What a slot sends.
+ghost use mathlib.Core.Path.{_≡_};
+ghost use Prim.Native.Nat.{_+_, _≤_};
+ghost use lib.Dec.{eqb};
+ghost use mathlib.Core.Bool.{not, _||_};
+ghost use mathlib.Core.List.{[], _∷_};
+ghost use Rattle.position.specs.Profile.{ValidProfile};
+ghost use Rattle.head.specs.States.{isInitialising};
+ghost use Rattle.head.specs.WaitingLine.{Kind, frame as frameWith, frameOf};
+ghost use Rattle.head.specs.Acts.{booted as bootedCore, acted, frameBy};
+ghost use Rattle.head.specs.Calls.{sentBy, frameIn};
+ghost use Rattle.head.specs.Steps.{pdoOf, sendable};
+use crate::Core;
+use crate::emergency;
+use crate::nmt;
+use crate::nmt::Nmt;
+use can::Bytes;
+use can::Frame;
+use waiting::EMERGENCY;
+use waiting::HEARTBEAT;
+use waiting::SDO_REPLY;
+use waiting::TPDO1;
+
+const EMERGENCY_FRAME: u32 = 0x080;
+
+const REPLY_FRAME: u32 = 0x580;
+
+const HEARTBEAT_FRAME: u32 = 0x700;
+
+const NO_KIND: u8 = 0;
+
+// Whether there is a frame to send: the boot-up frame, or that of the first kind in the line.
+pub fn waits(core: Core, kind: u8) -> bool
+    ensures { λ r. ⌜ r ≡ (isInitialising core || not (eqb kind 0)) ⌝ }
+{
+    let state = core.nmt;
+    nmt::is_initialising(state) | (kind != NO_KIND)
+}
+
+// The core once the frame is sent.
+pub fn after(core: Core, kind: u8) -> Core
+    requires { ⌜ core .device .settings .communication .inhibit ≤ 0xFFFF ⌝ }
+    ensures { λ r. ⌜ r ≡ acted core (sentBy core kind) ⌝ }
+{
+    let state = core.nmt;
+    if nmt::is_initialising(state) {
+        return booted(core);
+    }
+    if kind == EMERGENCY {
+        return emergency::announcing(core);
+    }
+    core
+}
+
+fn booted(core: Core) -> Core
+    ensures { λ r. ⌜ r ≡ bootedCore core ⌝ }
+{
+    let pre_operational = Nmt::PRE_OPERATIONAL;
+    let timers = nmt::at_rest();
+    let mut next = core;
+    next.nmt = pre_operational;
+    next.timers = timers;
+    next
+}
+
+pub fn frame(core: Core, kind: u8) -> Frame
+    requires { ⌜ ValidProfile (core .device .settings .profile) ⌝ }
+    ensures { λ r. ⌜ r ≡ frameIn (frameBy core (sentBy core kind)) ⌝ }
+{
+    let state = core.nmt;
+    let node = core.device.node;
+    if nmt::is_initialising(state) {
+        return state_frame(node, state);
+    }
+    if kind == NO_KIND {
+        return framed(0, 0, [0, 0, 0, 0, 0, 0, 0, 0]);
+    }
+    if kind == EMERGENCY {
+        return framed(
+            EMERGENCY_FRAME + node as u32,
+            8,
+            emergency::bytes(core.device.reading.good),
+        );
+    }
+    if kind == SDO_REPLY {
+        let reply = core.reply;
+        return framed(REPLY_FRAME + node as u32, 8, reply);
+    }
+    if kind == HEARTBEAT {
+        return state_frame(node, state);
+    }
+    position_frame(core, kind)
+}
+
+// Boot-up and heartbeat: one byte, the state code.
+fn state_frame(node: u8, state: Nmt) -> Frame
+    ensures { λ r. ⌜ r ≡ frameWith (0x700 + node) 1 (state .code ∷ []) ⌝ }
+{
+    framed(
+        HEARTBEAT_FRAME + node as u32,
+        1,
+        [state.code, 0, 0, 0, 0, 0, 0, 0],
+    )
+}
+
+fn position_frame(core: Core, kind: u8) -> Frame
+    requires { ⌜ ValidProfile (core .device .settings .profile) ⌝ }
+    ensures { λ r. ⌜ r ≡ frameOf core (Kind.tpdo (pdoOf kind)) ⌝ }
+{
+    let profile = core.device.settings.profile;
+    let position = position::position_of(profile, core.device.reading.raw);
+    let low = can::long_bytes(position);
+    let bytes = [low[0], low[1], low[2], low[3], 0, 0, 0, 0];
+    if kind == TPDO1 {
+        return framed(core.device.settings.communication.pdo1.identifier, 4, bytes);
+    }
+    framed(core.device.settings.communication.pdo2.identifier, 4, bytes)
+}
+
+fn framed(identifier: u32, length: u8, bytes: Bytes) -> Frame
+    ensures { λ r. ⌜ r ≡ sendable identifier length bytes ⌝ }
+{
+    Frame {
+        identifier,
+        length,
+        bytes,
+    }
+}
