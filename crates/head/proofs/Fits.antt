@@ -1,13 +1,12 @@
--- What a call means fits the head's state: what is known of an act where a call means it. The guards of specs/Calls are looked at here only.
-use Prim.Native.Nat.{ℕ, _+_, _≤_}
+-- What a call means fits the head's state: what is known of an act where a call means it.
+use Prim.Native.Nat.{ℕ, _≤_}
 use lib.Dec.{eqb, leb, ltb}
 use mathlib.Core.Path.{_≡_, refl}
-use mathlib.Core.Bool.{Bool, true, false, not, _&&_, _||_}
+use mathlib.Core.Bool.{Bool, true, false, not, _&&_}
 use mathlib.Core.List.{List}
 use borrow.Author.Tests.{ltb-false}
-use Rattle.cases.proofs.Cases.{by, both, neither}
+use Rattle.cases.proofs.Cases.{by, both}
 use Rattle.can.specs.declared.Received.{Received}
-use Rattle.can.specs.Frame.{refusalOf}
 use Rattle.sdo.specs.Reply.{replies}
 use Rattle.sdo.specs.Service.{answer, due}
 use Rattle.waiting.specs.Line as line
@@ -18,7 +17,8 @@ use Rattle.head.specs.declared.Sensor.{Sensor}
 use Rattle.head.specs.declared.Sensor.the-variants.{Missing, Raw}
 use Rattle.head.specs.States.{operational, isIn, isInitialising, isLive, node, Command, noCommand, start, restart, commandOf}
 use Rattle.head.specs.Acts.{Act, nothing, enter, reset, boot, idle, send, take, lose, time, sync, serve}
-use Rattle.head.specs.Calls.{Call, receive, tick, sample, slot, isSlot, commanded, requested, meant}
+use Rattle.head.specs.Calls.{Call, receive, tick, sample, slot, isSlot, commanded, synchronised, requested, meant}
+use Rattle.head.proofs.Hearing.{heard-by}
 
 abbrev pub Fits : Bool → Core → Act → Type 0
 Fits atSlot c nothing = atSlot ≡ false
@@ -38,38 +38,32 @@ module _ (h : Head) where
   abbrev c : Core
   c = h .core
 
-  abbrev P : Act → Type 0
-  P = Fits false c
+  abbrev Here : Act → Type 0
+  Here = Fits false c
 
-  fits-command : (x : Command) → isInitialising c ≡ false → P (commanded c x)
+  fits-command : (x : Command) → isInitialising c ≡ false → Here (commanded c x)
   fits-command noCommand i = refl
-  fits-command (start g) i = by P (isIn g c) (λ _. refl) (λ _. i)
+  fits-command (start g) i = by Here (isIn g c) (λ _. refl) (λ _. i)
   fits-command (restart r) i = i
 
-  fits-frame : (f : Received) → P (meant h (receive f))
-  fits-frame f =
-      by P (eqb (refusalOf f) 0)
-      (λ _. by P (f .extended || f .remote || isInitialising c) (λ _. refl)
-      (λ e. by P (eqb (f .identifier) 0x000) (λ _. fits-command (commandOf (node c) f) (neither (f .extended || f .remote) (isInitialising c) e .1))
-      (λ _. by P (eqb (f .identifier) 0x080) (λ _. by P (leb (f .length) 1 && isIn operational c) (λ t. both (leb (f .length) 1) (isIn operational c) t .1) (λ _. refl))
-      (λ _. by P (eqb (f .identifier) (0x600 + node c)) (λ _. fits-request) (λ _. refl)))))
-      (λ _. refl)
-    where
-      fits-request : P (requested h f)
-      fits-request =
-          let free = not (has line.sdoReply (h .line)) in
-          by P (eqb (f .length) 8 && isLive c && free)
-          (λ t. by P (replies (answer (f .bytes) (due (c .device) (isIn operational c) (f .bytes)) .effect))
-          (λ _. (both (eqb (f .length) 8) (isLive c) (both (eqb (f .length) 8 && isLive c) free t .0) .1, (f .bytes, refl)))
-          (λ _. refl))
-          (λ _. refl)
+  fits-sync : (length : ℕ) → Here (synchronised c length)
+  fits-sync length = by Here (leb length 1 && isIn operational c) (λ t. both (leb length 1) (isIn operational c) t .1) (λ _. refl)
 
-  fits-sample : (s : Sensor) → P (meant h (sample s))
+  fits-request : (f : Received) → Here (requested h f)
+  fits-request f =
+      let free = not (has line.sdoReply (h .line)) in
+      by Here (eqb (f .length) 8 && isLive c && free)
+      (λ t. by Here (replies (answer (f .bytes) (due (c .device) (isIn operational c) (f .bytes)) .effect))
+      (λ _. (both (eqb (f .length) 8) (isLive c) (both (eqb (f .length) 8 && isLive c) free t .0) .1, (f .bytes, refl)))
+      (λ _. refl))
+      (λ _. refl)
+
+  fits-sample : (s : Sensor) → Here (meant h (sample s))
   fits-sample Missing = tt
-  fits-sample (Raw r) = by P (ltb 1048575 r) (λ _. refl) (λ e. ltb-false 1048575 r e)
+  fits-sample (Raw r) = by Here (ltb 1048575 r) (λ _. refl) (λ e. ltb-false 1048575 r e)
 
   pub fits : (x : Call) → Fits (isSlot x) c (meant h x)
-  fits (receive f) = fits-frame f
-  fits tick = by P (isInitialising c) (λ _. refl) (λ i. i)
+  fits (receive f) = heard-by h f Here refl (λ i _. fits-command (commandOf (node c) f) i) (λ _. fits-sync (f .length)) (λ _. fits-request f)
+  fits tick = by Here (isInitialising c) (λ _. refl) (λ i. i)
   fits (sample s) = fits-sample s
   fits slot = by (Fits true c) (isInitialising c) (λ i. i) (λ i. by (Fits true c) (eqb (first (h .line)) 0) (λ _. i) (λ _. i))

@@ -1,73 +1,73 @@
--- What a slot sends and does, by the tests that the code makes.
-use Prim.Native.Nat.{ℕ, _+_}
+-- What a slot answers, and that nothing waits in Initialising.
+use Prim.Native.Nat.{ℕ, zero, suc, _<_, _≤_}
+use native.Mathlib.Omega.{arith}
 use lib.Dec.{eqb}
 use mathlib.Core.Path.{_≡_, refl, sym, ap, _∙_}
-use mathlib.Core.Bool.{Bool, true, false, not, _||_}
-use borrow.Author.Tests.{eqb-true, ne-eqb}
-use Rattle.cases.proofs.Cases.{by, cond-ap}
-use mathlib.Core.List.{[], _∷_}
-use Rattle.waiting.specs.Line.{first}
+use mathlib.Core.Logic.{_↔_}
+use mathlib.Core.Bool.{true, false}
+use mathlib.Core.List.{List, [], _∷_}
+use borrow.Author.Tests.{eqb-true, eq-eqb}
+use Rattle.cases.proofs.Cases.{test, true-false}
+use Rattle.waiting.specs.Line.{places, has, first, Kinds}
+use Rattle.waiting.specs.Places.{waiting}
+use Rattle.waiting.proofs.Laws.{laws}
 use Rattle.head.specs.declared.Core.{Core}
 use Rattle.head.specs.declared.Head.{Head}
-use Rattle.head.specs.declared.Sent.{Sent}
-use Rattle.head.specs.States.{one, two, isInitialising, node}
-use Rattle.head.specs.Acts.{Act, boot, idle, send, sending, acted, moments, ever, settledTo, act, frameBy}
-use Rattle.head.specs.Calls.{sentBy, isFrame, frameIn, slotted}
-use Rattle.head.specs.WaitingLine.{Kind, emergency, sdoReply, heartbeat, tpdo, number, kindOf, frame}
-use Rattle.head.specs.Steps.{pdoOf}
+use Rattle.head.specs.States.{isInitialising, one, two}
+use Rattle.head.specs.WaitingLine.{Kind, emergency, sdoReply, heartbeat, tpdo, number, kindOf, may}
+use Rattle.head.specs.Acts.{Act, boot, send, frameBy}
+use Rattle.head.specs.Calls.{slot, meant, sentBy, isFrame, frameIn, slotted}
+use Rattle.head.specs.Valid.{Valid}
+use Rattle.head.proofs.States.{not-operational, not-live}
 
-module _ (c : Core) (k : ℕ) where
-  -- what holds of each act of a slot holds of what it does
-  pub each-act : (P : Act → Type 0) → (isInitialising c ≡ true → P boot) → (isInitialising c ≡ false → eqb k 0 ≡ true → P idle) → (isInitialising c ≡ false → eqb k 0 ≡ false → P (send (kindOf k))) → P (sentBy c k)
-  each-act P b i s = by P (isInitialising c) b (λ e. by P (eqb k 0) (i e) (s e))
+no-may : (c : Core) (k : Kind) → isInitialising c ≡ true → may c k ≡ false
+no-may c emergency i = rw (not-live c i)
+no-may c sdoReply i = not-live c i
+no-may c heartbeat i = rw i
+no-may c (tpdo w) i = rw (not-operational c i)
 
-  slot-moments : moments c (sentBy c k) ≡ ever
-  slot-moments = each-act (λ a. moments c a ≡ ever) (λ e. refl) (λ e n. refl) (λ e n. refl)
+number-is : (x : ℕ) → 0 < x → x ≤ places → number (kindOf x) ≡ x
+number-is zero p q = absurd (omega arith)
+number-is (suc zero) p q = refl
+number-is (suc (suc zero)) p q = refl
+number-is (suc (suc (suc zero))) p q = refl
+number-is (suc (suc (suc (suc zero)))) p q = refl
+number-is (suc (suc (suc (suc (suc zero))))) p q = refl
+number-is (suc (suc (suc (suc (suc (suc x)))))) p q = absurd (omega arith)
 
-  -- one frame, or none exactly if none waits
-  pub slot-waits : isFrame (frameBy c (sentBy c k)) ≡ (isInitialising c || not (eqb k 0))
-  slot-waits = each-act (λ a. isFrame (frameBy c a) ≡ (isInitialising c || not (eqb k 0))) (λ e. rw e) (λ e n. rw (e, n)) (λ e n. rw (e, n))
+none-of : (ws : List ℕ) → Kinds places ws → ((k : Kind) → has (number k) ws ≡ true → ⊥) → ws ≡ []
+none-of [] h n = refl
+none-of (x ∷ xs) h n = absurd (n (kindOf x) (rw (eq-eqb x (number (kindOf x)) (sym (number-is x (h .0) (h .1))))))
 
-  abbrev Kept : Kind → Type 0
-  Kept j = c ≡ sending c j
+sent-by : (c : Core) (k : Kind) → isInitialising c ≡ false → sentBy c (number k) ≡ send k
+sent-by c emergency i = rw i
+sent-by c sdoReply i = rw i
+sent-by c heartbeat i = rw i
+sent-by c (tpdo one) i = rw i
+sent-by c (tpdo two) i = rw i
 
-  module _ (running : isInitialising c ≡ false) where
-    pub sends : (j : Kind) → k ≡ number j → sentBy c k ≡ send j
-    sends emergency i = rw (running, i)
-    sends sdoReply i = rw (running, i)
-    sends heartbeat i = rw (running, i)
-    sends (tpdo one) i = rw (running, i)
-    sends (tpdo two) i = rw (running, i)
+module _ (h : Head) where
+  -- by what the slot means
+  pub answers : {a : Act} → meant h slot ≡ a → (slotted h .waited ≡ isFrame (frameBy (h .core) a)) × (slotted h .frame ≡ frameIn (frameBy (h .core) a))
+  answers m = (ap (λ x. isFrame (frameBy (h .core) x)) m, ap (λ x. frameIn (frameBy (h .core) x)) m)
 
-    pub idles : k ≡ 0 → sentBy c k ≡ idle
-    idles i = rw (running, i)
+  pub boots : isInitialising (h .core) ≡ true → meant h slot ≡ boot
+  boots i = rw i
 
-    pub sends-position : (k ≡ 0 → ⊥) → (k ≡ 1 → ⊥) → (k ≡ 2 → ⊥) → (k ≡ 3 → ⊥) → sentBy c k ≡ send (tpdo (pdoOf k))
-    sends-position a b d e = rw (running, ne-eqb _ _ a, ne-eqb _ _ b, ne-eqb _ _ d, ne-eqb _ _ e) (ap send (sym (cond-ap tpdo (eqb k 4) one two)))
+  module _ (v : Valid h) where
+    pub none-waits : isInitialising (h .core) ≡ true → waiting (h .line) ≡ []
+    none-waits i = none-of (waiting (h .line)) (v .line .kinds) (λ k w. true-false (sym (v .only k w) ∙ no-may (h .core) k i))
 
-    -- only sending an emergency alters the core
-    pub passes : (k ≡ 1 → ⊥) → c ≡ acted c (sentBy c k)
-    passes n =
-        rw (running, ne-eqb k 1 n)
-        (by (λ (a : Act). c ≡ acted c a) (eqb k 0) (λ e. refl) (λ e.
-        by Kept (eqb k 2) (λ e. refl) (λ e. by Kept (eqb k 3) (λ e. refl) (λ e. by Kept (eqb k 4) (λ e. refl) (λ e. refl)))))
+    pub sends-first : isInitialising (h .core) ≡ false → (k : Kind) → first (waiting (h .line)) ≡ number k → meant h slot ≡ send k
+    sends-first i k e = rw (laws places .first-of (v .line), e) (sent-by (h .core) k i)
 
-  pub boots : isInitialising c ≡ true → sentBy c k ≡ boot
-  boots e = rw e
-
-  -- the frame, and the core, of what a slot does
-  pub frame-as : (a : Act) → sentBy c k ≡ a → frameIn (frameBy c a) ≡ frameIn (frameBy c (sentBy c k))
-  frame-as a e = ap (λ x. frameIn (frameBy c x)) (sym e)
-
-  pub core-as : (a : Act) → sentBy c k ≡ a → acted c a ≡ acted c (sentBy c k)
-  core-as a e = ap (acted c) (sym e)
-
-  -- the boot-up frame: Initialising's code
-  pub boot-frame : isInitialising c ≡ true → frame (0x700 + node c) 1 (c .nmt .code ∷ []) ≡ frameIn (frameBy c (sentBy c k))
-  boot-frame e = ap (λ n. frame (0x700 + node c) 1 (n ∷ [])) (eqb-true (c .nmt .code) 0 e) ∙ frame-as boot (boots e)
-
-pub slot-settles : (h : Head) → let a = sentBy (h .core) (first (h .line)) in settledTo true h (acted (h .core) a) ever ≡ act true h a
-unfolding act
-slot-settles h =
-    let a = sentBy (h .core) (first (h .line)) in
-    ap {B = Head} (settledTo true h (acted (h .core) a)) (sym (slot-moments (h .core) (first (h .line))))
+    pub none-exactly : (slotted h .waited ≡ false) ↔ ((isInitialising (h .core) ≡ false) × (waiting (h .line) ≡ []))
+    none-exactly = (none-left, λ e. rw (e .0, laws places .first-of (v .line), e .1))
+      where
+        none-left : slotted h .waited ≡ false → (isInitialising (h .core) ≡ false) × (waiting (h .line) ≡ [])
+        none-left e =
+            test (isInitialising (h .core))
+            (λ i. true-false (rw i at e))
+            (λ i. test (eqb (first (h .line)) 0)
+            (λ z. (i, laws places .idle (v .line) (eqb-true _ _ z)))
+            (λ z. true-false (rw (i, z) at e)))

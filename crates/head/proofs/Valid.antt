@@ -2,8 +2,9 @@
 use Prim.Native.Nat.{ℕ, _≤_}
 use native.Mathlib.Omega.{arith}
 use mathlib.Core.Path.{_≡_, refl, sym, _∙_}
-use mathlib.Core.Bool.{Bool, true, false, not, _&&_, _||_}
-use Rattle.cases.proofs.Cases.{true-false}
+use mathlib.Core.Bool.{Bool, true, false, not, _&&_, _||_, and-true, and-false}
+use borrow.Author.Tests.{not-true}
+use Rattle.cases.proofs.Cases.{both, true-false}
 use Rattle.dictionary.specs.declared.Identity.{Identity}
 use Rattle.dictionary.specs.Settings.{factory}
 use Rattle.dictionary.specs.Valid.{ValidIdentity}
@@ -26,14 +27,9 @@ use Rattle.head.proofs.Counts.{resting, timers-act}
 -- A kind that waits afterwards may: m its moment, y and z whether it may before and after, w whether it waited.
 stays-may : (m y z s w : Bool) → (w ≡ true → y ≡ true) → ((m && z) || (not (y && not z) && (s && w))) ≡ true → z ≡ true
 stays-may m y true s w o e = refl
-stays-may true true false s w o e = e
-stays-may true false false s true o e = o refl
-stays-may true false false true false o e = e
-stays-may true false false false false o e = e
-stays-may false true false s w o e = e
-stays-may false false false s true o e = o refl
-stays-may false false false true false o e = e
-stays-may false false false false false o e = e
+stays-may m y false s w o e =
+    let u = both (not y) (s && w) (rw (and-false m, and-true y) at e) in
+    true-false (sym (o (both s w (u .1) .1)) ∙ not-true y (u .0))
 
 module _ (b : Bool) (h : Head) where
   -- any call that does something is the emergency's moment

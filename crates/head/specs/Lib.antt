@@ -5,3 +5,5 @@ pub mod Acts
 pub mod Calls
 pub mod Steps
 pub mod Valid
+pub mod Laws
+pub mod Worked

@@ -1,4 +1,4 @@
-use Rattle.head.proofs.Meaning.{unheard, commands, synchronises, asks, not-meant}
+use Rattle.head.proofs.FrameTests.{unheard, commands, synchronises, asks, not-meant}
 use borrow.Author.Needs.{needs}
 use Rattle.head.proofs.heard.Statement.{statement}
 use Rattle.head.proofs.heard.Tie as tie

@@ -1,4 +1,4 @@
-use Rattle.head.proofs.Called.{powers-up, powers-up-refused}
+use Rattle.head.proofs.CallTests.{powers-up, powers-up-refused}
 use borrow.Author.Needs.{needs}
 use Rattle.head.proofs.power_up.Statement.{statement}
 use Rattle.head.proofs.power_up.Tie as tie

@@ -1,5 +1,5 @@
-use Rattle.head.proofs.Called.{receives}
-use Rattle.head.proofs.Meaning.{refused, unrefused}
+use Rattle.head.proofs.CallTests.{receives}
+use Rattle.head.proofs.FrameTests.{refused, unrefused}
 use mathlib.Core.Path.{_∙_}
 use borrow.Author.Needs.{needs}
 use Rattle.head.proofs.receive.Statement.{statement}

@@ -1,4 +1,4 @@
-use Rattle.head.proofs.Called.{loses, refuses, takes}
+use Rattle.head.proofs.CallTests.{loses, refuses, takes}
 use borrow.Author.Needs.{needs}
 use Rattle.head.proofs.sample.Statement.{statement}
 use Rattle.head.proofs.sample.Tie as tie

@@ -1,4 +1,4 @@
-use Rattle.head.proofs.Called.{sends-first}
+use Rattle.head.proofs.CallTests.{sends-first}
 use borrow.Author.Needs.{needs}
 use Rattle.head.proofs.slot.Statement.{statement}
 use Rattle.head.proofs.slot.Tie as tie

@@ -1,4 +1,4 @@
-use Rattle.head.proofs.Called.{ticks-idle, ticks-on}
+use Rattle.head.proofs.CallTests.{ticks-idle, ticks-on}
 use mathlib.Core.Path.{sym, _∙_}
 use borrow.Author.Needs.{needs}
 use Rattle.head.proofs.tick.Statement.{statement}

@@ -1,5 +1,5 @@
 use Rattle.head.specs.States.{resetCommand, byteOf}
-use Rattle.head.proofs.Commands.{enters, unaddressed, obeys}
+use Rattle.head.proofs.CommandTests.{enters, unaddressed, obeys}
 use Rattle.head.specs.States.{operational, stopped, preOperational, start}
 use borrow.Author.Tests.{eq-eqb, ne-eqb, not-true, not-false}
 use mathlib.Core.Path.{_∙_}

@@ -1,4 +1,4 @@
-use Rattle.head.proofs.Commands.{none-acts, resets, reset-as}
+use Rattle.head.proofs.CommandTests.{none-acts, resets, reset-as}
 use Rattle.head.specs.States.{ofNode, ofCommunication, restart}
 use borrow.Author.Tests.{eq-eqb, ne-eqb}
 use mathlib.Core.Path.{_∙_}

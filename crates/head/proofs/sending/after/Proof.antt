@@ -1,4 +1,4 @@
-use Rattle.head.proofs.Slots.{boots, sends, passes, core-as}
+use Rattle.head.proofs.SlotTests.{boots, sends, passes, core-as}
 use Rattle.head.specs.WaitingLine.{emergency}
 use Rattle.head.specs.Acts.{boot, send}
 use mathlib.Core.Path.{sym, _∙_}

@@ -1,4 +1,4 @@
-use Rattle.head.proofs.Slots.{boot-frame, sends, idles, sends-position, frame-as}
+use Rattle.head.proofs.SlotTests.{boot-frame, sends, idles, sends-position, frame-as}
 use Rattle.head.specs.Steps.{pdoOf}
 use Rattle.head.specs.WaitingLine.{emergency, sdoReply, heartbeat, tpdo}
 use Rattle.head.specs.Acts.{idle, send}

@@ -1,5 +1,5 @@
-use Rattle.head.proofs.Requests.{taken-answer}
-use Rattle.head.proofs.Requests.{unrequested, requests}
+use Rattle.head.proofs.RequestTests.{taken-answer}
+use Rattle.head.proofs.RequestTests.{unrequested, requests}
 use borrow.Author.Tests.{not-true, not-false}
 use borrow.Author.Needs.{needs}
 use Rattle.head.proofs.service.requested.Statement.{statement}

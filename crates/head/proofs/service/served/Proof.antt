@@ -1,4 +1,4 @@
-use Rattle.head.proofs.Requests.{unserved, replies-so, writes-so}
+use Rattle.head.proofs.RequestTests.{unserved, replies-so, writes-so}
 use borrow.Author.Needs.{needs}
 use Rattle.head.proofs.service.served.Statement.{statement}
 use Rattle.head.proofs.service.served.Tie as tie

@@ -1,4 +1,4 @@
-use Rattle.head.proofs.Commands.{no-sync, syncs}
+use Rattle.head.proofs.CommandTests.{no-sync, syncs}
 use borrow.Author.Tests.{not-true, not-false}
 use borrow.Author.Needs.{needs}
 use Rattle.head.proofs.sync.synchronised.Statement.{statement}

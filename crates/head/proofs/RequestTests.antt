@@ -25,7 +25,7 @@ use Rattle.head.specs.States.{operational, isIn, isLive}
 use Rattle.head.specs.Acts.{nothing, serve, requestMoments, serving, settledTo, act}
 use Rattle.head.specs.Calls.{served, requested}
 use Rattle.head.specs.Steps.{Taken, servedWith}
-use Rattle.head.proofs.Commands.{none-acts}
+use Rattle.head.proofs.CommandTests.{none-acts}
 
 -- the entry and the value of a write
 abbrev isWrite : Effect → Bool

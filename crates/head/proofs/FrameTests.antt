@@ -10,7 +10,7 @@ use Rattle.head.specs.declared.Head.{Head}
 use Rattle.head.specs.States.{isInitialising, node, commandOf}
 use Rattle.head.specs.Acts.{Act, nothing, act}
 use Rattle.head.specs.Calls.{commanded, synchronised, requested, heardUnrefused, receive, step}
-use Rattle.head.proofs.Commands.{none-acts}
+use Rattle.head.proofs.CommandTests.{none-acts}
 
 module _ (h : Head) (f : Received) where
   abbrev Unheard : Bool

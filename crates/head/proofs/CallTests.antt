@@ -21,9 +21,9 @@ use Rattle.head.specs.Acts.{Act, nothing, take, lose, time, acted, timin
 use Rattle.head.specs.Calls.{Call, receive, tick, sample, slot, timed, sampledAs, sentBy, step, answered, noIdentity, poweredUp, received, ticked, sampled, isFrame, frameIn, slotted}
 use Rattle.head.specs.Valid.{Valid}
 use Rattle.head.proofs.Nothing.{act-nothing}
-use Rattle.head.proofs.Commands.{none-acts}
+use Rattle.head.proofs.CommandTests.{none-acts}
 use Rattle.head.proofs.Valid.{valid-step, valid-started}
-use Rattle.head.proofs.Slots.{slot-waits, slot-settles}
+use Rattle.head.proofs.SlotTests.{slot-waits, slot-settles}
 
 pub powers-up : (n : ℕ) (i : Identity) → within 1 127 n ≡ true → ValidIdentity i → (answered 0 (started n i) ≡ poweredUp n i) × Valid (started n i)
 powers-up n i e v = let b = both _ _ e in rw e (refl, valid-started n i (leb-true _ _ (b .0)) (leb-true _ _ (b .1)) v)

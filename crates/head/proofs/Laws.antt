@@ -1,0 +1,77 @@
+-- `Laws` of specs/Laws.antt.
+use Prim.Native.Nat.{ℕ, _≤_}
+use native.Mathlib.Omega.{arith}
+use lib.Dec.{leb}
+use mathlib.Core.Path.{_≡_, refl, sym, ap, _∙_}
+use mathlib.Core.Bool.{Bool, true, false}
+use borrow.Author.Tests.{leb-true}
+use Rattle.cases.proofs.Cases.{by, both}
+use Rattle.can.specs.Frame.{badIdentifier, badLength}
+use Rattle.dictionary.specs.declared.Identity.{Identity}
+use Rattle.dictionary.specs.Accepted.{within}
+use Rattle.dictionary.specs.Valid.{ValidIdentity}
+use Rattle.head.specs.declared.Head.{Head}
+use Rattle.head.specs.declared.Answer.{Answer}
+use Rattle.head.specs.WaitingLine.{emergency, may}
+use Rattle.head.specs.Acts.{act}
+use Rattle.head.specs.Calls.{receive, tick, badSample, noIdentity, poweredUp}
+use Rattle.head.specs.Valid.{waits, Valid}
+use Rattle.head.specs.Laws.{OneOutcome, Laws}
+use Rattle.head.proofs.Nothing.{step-nothing}
+use Rattle.head.proofs.Valid.{valid-step, valid-started}
+use Rattle.head.proofs.Refusals.{passes, fails, first-passes, second-passes, neither-passes, power-refusal, frame-refused, sample-refused, node-refused, node-taken}
+use Rattle.head.proofs.Unmeant.{unmeant}
+use Rattle.head.proofs.Slots.{answers, boots, none-waits, sends-first, none-exactly}
+
+powered-valid : (n : ℕ) (i : Identity) → ValidIdentity i → Valid (poweredUp n i .head)
+powered-valid n i v =
+    by (λ (a : Answer). Valid (a .head)) (within 1 127 n)
+    (λ e. let bounds = both (leb 1 n) (leb n 127) e in valid-started n i (leb-true _ _ (bounds .0)) (leb-true _ _ (bounds .1)) v)
+    (λ _. valid-started 1 noIdentity (omega arith) (omega arith) (record { vendor = least; product = least; revision = least; serial = least }))
+  where
+    least : 0 ≤ 0xFFFFFFFF
+    least = omega arith
+
+emergency-exactly : (h : Head) → Valid h → waits h emergency ≡ may (h .core) emergency
+emergency-exactly h v = same (waits h emergency) (may (h .core) emergency) (v .only emergency) (v .urgent)
+  where
+    same : (t u : Bool) → (t ≡ true → u ≡ true) → (u ≡ true → t ≡ true) → t ≡ u
+    same true u f g = sym (f refl)
+    same false true f g = g refl
+    same false false f g = refl
+
+one-outcome : {A : Type 0} (due : A) → OneOutcome due
+one-outcome due x y p q = p ∙ sym q
+
+pub laws : Laws
+unfolding act
+laws =
+    record {
+      powered-valid = powered-valid;
+      call-valid = valid-step;
+      none-exactly = none-exactly;
+      gives-1 = λ h f. first-passes 1 2 0 refl refl refl (badIdentifier f) (badLength f);
+      gives-2 = λ h f. second-passes 1 2 0 refl refl refl (badIdentifier f) (badLength f);
+      takes-frame = λ h f. neither-passes 1 2 0 refl refl refl (badIdentifier f) (badLength f);
+      gives-3 = λ h s. passes 3 0 refl (badSample s);
+      takes-sample = λ h s. fails 3 0 refl (badSample s);
+      gives-4 = λ n i. rw (power-refusal n i) (fails 0 4 refl (within 1 127 n));
+      takes-node = λ n i. rw (power-refusal n i) (passes 0 4 refl (within 1 127 n));
+      frame-refused = frame-refused;
+      sample-refused = sample-refused;
+      node-refused = node-refused;
+      node-taken = node-taken;
+      not-meant = λ h f v m. step-nothing h (receive f) refl (unmeant h f v m);
+      timers-stand = λ h i. step-nothing h tick refl (rw i);
+      only-boot-up = λ h v i. let s = answers h (boots h i) in (none-waits h v i, s .0, s .1);
+      boots = λ h i. ap (λ a. act true h a .core .nmt) (boots h i);
+      once = λ h v. v .line .kinds;
+      sends-first = λ h v i k e. answers h (sends-first h v i k e);
+      emergency-exactly = emergency-exactly;
+      waits-rightly = λ h v. v .only;
+      one-power-up = λ n i. one-outcome _;
+      one-receive = λ h f. one-outcome _;
+      one-tick = λ h. one-outcome _;
+      one-sample = λ h s. one-outcome _;
+      one-slot = λ h. one-outcome _;
+    }

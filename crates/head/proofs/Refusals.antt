@@ -1,0 +1,63 @@
+-- Each refusal number is given exactly when it is due, and a refused call leaves the head as it was. By the cases of the tests.
+use Prim.Native.Nat.{ℕ}
+use lib.Dec.{eqb}
+use mathlib.Core.Path.{_≡_, refl, sym, _∙_}
+use mathlib.Core.Logic.{_↔_}
+use mathlib.Core.Bool.{Bool, true, false, cond}
+use borrow.Author.Tests.{eqb-false, ne-eqb}
+use Rattle.cases.proofs.Cases.{cond-ap, test, true-false}
+use Rattle.can.specs.declared.Received.{Received}
+use Rattle.can.specs.Frame.{refusalOf}
+use Rattle.dictionary.specs.declared.Identity.{Identity}
+use Rattle.dictionary.specs.Accepted.{within}
+use Rattle.head.specs.declared.Head.{Head}
+use Rattle.head.specs.declared.Answer.{Answer}
+use Rattle.head.specs.declared.Sensor.{Sensor}
+use Rattle.head.specs.declared.Sensor.the-variants.{Missing, Raw}
+use Rattle.head.specs.States.{started}
+use Rattle.head.specs.Acts.{nothing}
+use Rattle.head.specs.Calls.{receive, sample, badSample, sampledAs, step, noIdentity, poweredUp, sampled}
+use Rattle.head.proofs.Nothing.{step-nothing}
+
+-- one test: a where it passes, else b
+module _ (a b : ℕ) (apart : eqb a b ≡ false) where
+  pub passes : (t : Bool) → (cond t a b ≡ a) ↔ (t ≡ true)
+  passes true = (λ _. refl, λ _. refl)
+  passes false = (λ e. absurd (eqb-false a b apart (sym e)), λ e. true-false (sym e))
+
+  pub fails : (t : Bool) → (cond t a b ≡ b) ↔ (t ≡ false)
+  fails true = (λ e. absurd (eqb-false a b apart e), λ e. true-false e)
+  fails false = (λ _. refl, λ _. refl)
+
+-- two: a where the first passes, b where only the second does, else c
+module _ (a b c : ℕ) (ab : eqb a b ≡ false) (ac : eqb a c ≡ false) (bc : eqb b c ≡ false) where
+  pub first-passes : (t u : Bool) → (cond t a (cond u b c) ≡ a) ↔ (t ≡ true)
+  first-passes t true = passes a b ab t
+  first-passes t false = passes a c ac t
+
+  pub second-passes : (t u : Bool) → (cond t a (cond u b c) ≡ b) ↔ ((t ≡ false) × (u ≡ true))
+  second-passes true u = (λ e. absurd (eqb-false a b ab e), λ e. true-false (e .0))
+  second-passes false u = (λ e. (refl, passes b c bc u .0 e), λ e. passes b c bc u .1 (e .1))
+
+  pub neither-passes : (t u : Bool) → (cond t a (cond u b c) ≡ c) ↔ ((t ≡ false) × (u ≡ false))
+  neither-passes true u = (λ e. absurd (eqb-false a c ac e), λ e. true-false (e .0))
+  neither-passes false u = (λ e. (refl, fails b c bc u .0 e), λ e. fails b c bc u .1 (e .1))
+
+pub power-refusal : (n : ℕ) (i : Identity) → poweredUp n i .refusal ≡ cond (within 1 127 n) 0 4
+power-refusal n i = cond-ap (λ (a : Answer). a .refusal) (within 1 127 n) _ _
+
+pub frame-refused : (h : Head) (f : Received) → (refusalOf f ≡ 0 → ⊥) → step h (receive f) ≡ h
+frame-refused h f n = step-nothing h (receive f) refl (rw (ne-eqb (refusalOf f) 0 n))
+
+no-sample : (s : Sensor) → badSample s ≡ true → sampledAs s ≡ nothing
+no-sample Missing e = true-false (sym e)
+no-sample (Raw r) e = rw e
+
+pub sample-refused : (h : Head) (s : Sensor) → (sampled h s .refusal ≡ 0 → ⊥) → step h (sample s) ≡ h
+sample-refused h s n = test (badSample s) (λ e. step-nothing h (sample s) refl (no-sample s e)) (λ e. absurd (n (rw e)))
+
+pub node-refused : (n : ℕ) (i : Identity) → (poweredUp n i .refusal ≡ 0 → ⊥) → poweredUp n i .head ≡ started 1 noIdentity
+node-refused n i r = test (within 1 127 n) (λ e. absurd (r (rw e))) (λ e. rw e)
+
+pub node-taken : (n : ℕ) (i : Identity) → poweredUp n i .refusal ≡ 0 → poweredUp n i .head ≡ started n i
+node-taken n i r = rw (passes 0 4 refl (within 1 127 n) .0 (sym (power-refusal n i) ∙ r))

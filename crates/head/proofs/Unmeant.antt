@@ -1,0 +1,62 @@
+-- A frame that is not meant for the head means nothing: an equation for each reason.
+use Prim.Native.Nat.{_+_}
+use native.Mathlib.Omega.{arith}
+use lib.Dec.{eqb, leb}
+use mathlib.Core.Path.{_≡_, refl}
+use mathlib.Core.Bool.{true, not, _&&_, _||_, or-true, and-false}
+use borrow.Author.Needs.{needs}
+use borrow.Author.Tests.{ne-eqb, lt-leb}
+use Rattle.cases.proofs.Cases.{by}
+use Rattle.can.specs.declared.Received.{Received}
+use Rattle.can.specs.Frame.{refusalOf}
+use Rattle.sdo.proofs.Laws.{laws as sdo-laws}
+use Rattle.waiting.specs.Line as line
+use Rattle.waiting.specs.Line.{places, has}
+use Rattle.waiting.proofs.Laws.{laws}
+use Rattle.head.specs.declared.Core.{Core}
+use Rattle.head.specs.declared.Head.{Head}
+use Rattle.head.specs.States.{operational, isIn, isInitialising, isLive, node, command, byteOf, commandOf}
+use Rattle.head.specs.Acts.{Act, nothing}
+use Rattle.head.specs.Calls.{receive, commanded, synchronised, requested, meant}
+use Rattle.head.specs.Valid.{Valid}
+use Rattle.head.specs.Laws.{NotMeant, remote, of-29-bits, not-booted, other-identifier, command-length, other-node, other-command, state-held, sync-length, sync-state, request-length, request-state, reply-waits, client-abort}
+use Rattle.head.proofs.Hearing.{heard-by}
+
+module _ (h : Head) (f : Received) where
+  abbrev c : Core
+  c = h .core
+
+  abbrev None : Act → Type 0
+  None a = a ≡ nothing
+
+  outside : (f .extended || f .remote || isInitialising c) ≡ true → None (meant h (receive f))
+  outside e = by None (eqb (refusalOf f) 0) (λ _. rw e) (λ _. refl)
+
+  as-command : f .identifier ≡ 0x000 → None (commanded c (commandOf (node c) f)) → None (meant h (receive f))
+  as-command i x = heard-by h f None refl (λ _ _. x) (λ j. absurd (omega (arith, i, j))) (λ j. absurd (omega (arith, i, j)))
+
+  as-sync : f .identifier ≡ 0x080 → None (synchronised c (f .length)) → None (meant h (receive f))
+  as-sync i x = heard-by h f None refl (λ _ j. absurd (omega (arith, i, j))) (λ _. x) (λ j. absurd (omega (arith, i, j)))
+
+  as-request : f .identifier ≡ 0x600 + node c → None (requested h f) → None (meant h (receive f))
+  as-request i x = heard-by h f None refl (λ _ j. absurd (omega (arith, i, j))) (λ j. absurd (omega (arith, i, j))) (λ _. x)
+
+  addressed : None (commanded c (command (byteOf f 0))) → None (commanded c (commandOf (node c) f))
+  addressed x = by (λ k. None (commanded c k)) (eqb (f .length) 2 && (eqb (byteOf f 1) 0 || eqb (byteOf f 1) (node c))) (λ _. x) (λ _. refl)
+
+  pub unmeant : Valid h → NotMeant h f → meant h (receive f) ≡ nothing
+  unmeant v (remote e) = outside (rw (e, or-true (f .extended)))
+  unmeant v (of-29-bits e) = outside (rw e)
+  unmeant v (not-booted e) = outside (rw (e, or-true (f .extended || f .remote)))
+  unmeant v (other-identifier x y z) = heard-by h f None refl (λ _ i. absurd (x i)) (λ i. absurd (y i)) (λ i. absurd (z i))
+  unmeant v (command-length i n) = as-command i (rw (ne-eqb (f .length) 2 n))
+  unmeant v (other-node i x y) = as-command i (rw (ne-eqb (byteOf f 1) 0 x, ne-eqb (byteOf f 1) (node c) y, and-false (eqb (f .length) 2)))
+  unmeant v (other-command i e) = as-command i (addressed (rw e))
+  unmeant v (state-held g i e s) = as-command i (addressed (rw (e, s)))
+  unmeant v (sync-length i l) = as-sync i (rw (lt-leb (f .length) 1 l))
+  unmeant v (sync-state i s) = as-sync i (rw (s, and-false (leb (f .length) 1)))
+  unmeant v (request-length i n) = as-request i (rw (ne-eqb (f .length) 8 n))
+  unmeant v (request-state i s) = as-request i (rw (s, and-false (eqb (f .length) 8)))
+  unmeant v (reply-waits i w) = as-request i (rw (laws places .waits line.sdoReply (search needs) (v .line), w, and-false (eqb (f .length) 8 && isLive c)))
+  unmeant v (client-abort i a) =
+      as-request i (by None (eqb (f .length) 8 && isLive c && not (has line.sdoReply (h .line))) (λ _. rw (sdo-laws (c .device) (isIn operational c) (f .bytes) .replied, a)) (λ _. refl))

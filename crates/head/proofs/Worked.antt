@@ -1,0 +1,27 @@
+-- 01's worked numbers, from the definitions, by computation.
+use mathlib.Core.Path.{refl}
+use Rattle.dictionary.specs.Table.{entries, table, lookup}
+use Rattle.dictionary.specs.Reads.{shownAt}
+use Rattle.dictionary.specs.Writes.{written}
+use Rattle.sdo.specs.Service.{due}
+use Rattle.head.specs.Acts.{act}
+use Rattle.head.specs.Worked.{Worked}
+
+pub worked : Worked
+unfolding entries table lookup shownAt written due act
+worked =
+    record {
+      p1 = refl;
+      p2 = refl;
+      p3 = refl;
+      p4 = refl;
+      p5 = refl;
+      p6 = refl;
+      p7 = refl;
+      p8 = refl;
+      p9 = (refl, refl);
+      p10 = (refl, refl);
+      p11 = refl;
+      p12 = (refl, refl);
+      prints = refl;
+    }

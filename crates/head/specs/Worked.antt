@@ -1,0 +1,108 @@
+-- 01's chapter "Worked numbers", by calls from power-up: node 1, Pre-operational, factory settings; and the session printed there.
+use Prim.Native.Nat.{ℕ}
+use mathlib.Core.Path.{_≡_}
+use mathlib.Core.Bool.{Bool, true, false}
+use mathlib.Core.List.{List, [], _∷_, _++_}
+use Rattle.can.specs.declared.Frame.{Frame}
+use Rattle.sdo.specs.Worked.{bytes}
+use Rattle.head.specs.declared.Head.{Head}
+use Rattle.head.specs.declared.Sensor.the-variants.{Missing, Raw}
+use Rattle.head.specs.WaitingLine.{frame}
+use Rattle.head.specs.Calls.{Call, receive, tick, sample, slot, poweredUp, received, ticked, sampled, slotted, noFrame}
+
+-- node 1, identity 1, 2, 3, 4
+abbrev pub node1 : Head
+node1 = poweredUp 1 (record { vendor = 1; product = 2; revision = 3; serial = 4 }) .head
+
+-- the head that a call leaves
+abbrev pub called : Head → Call → Head
+called h (receive f) = received h f .head
+called h tick = ticked h
+called h (sample s) = sampled h s .head
+called h slot = slotted h .head
+
+abbrev pub after : Head → List Call → Head
+after h [] = h
+after h (c ∷ cs) = after (called h c) cs
+
+-- the eight bytes as a frame 601h
+abbrev pub request : List ℕ → Call
+request b = receive (record { identifier = 0x601; extended = false; remote = false; length = 8; bytes = b })
+
+-- what a slot answers: a frame, or none
+abbrev pub answer : Head → Bool × Frame
+answer h = (slotted h .waited, slotted h .frame)
+
+abbrev pub sends : ℕ → ℕ → List ℕ → Bool × Frame
+sends identifier length content = (true, frame identifier length content)
+
+-- After the calls, the request f gets the reply r.
+abbrev pub Replies : List Call → List ℕ → List ℕ → Type 0
+Replies cs f r = answer (after node1 (cs ++ request f ∷ [])) ≡ sends 0x581 8 r
+
+-- Pre-operational: the boot-up frame sent, the reading missing and told
+abbrev pub missing : List Call
+missing = slot ∷ slot ∷ []
+
+-- at the raw position r
+abbrev pub at : ℕ → List Call
+at r = sample (Raw r) ∷ slot ∷ []
+
+-- a write, and its reply sent
+abbrev pub writes : List ℕ → List Call
+writes f = request f ∷ slot ∷ []
+
+-- 6004h reads
+abbrev pub Reads : List Call → List ℕ → Type 0
+Reads cs r = Replies cs (bytes 0x40 0x04 0x60 0x00 0 0 0 0) r
+
+-- 6000h = 8: inverted, scaling off
+abbrev pub inverted : List Call
+inverted = writes (bytes 0x2B 0x00 0x60 0x00 0x08 0x00 0 0)
+
+-- 6000h = 4, then 6005h = 10,000
+abbrev pub coarse : List Call
+coarse = writes (bytes 0x2B 0x00 0x60 0x00 0x04 0x00 0 0) ++ writes (bytes 0x23 0x05 0x60 0x01 0x10 0x27 0 0)
+
+-- 6003h = 40
+abbrev pub preset : List Call
+preset = writes (bytes 0x23 0x03 0x60 0x00 0x28 0 0 0)
+
+-- what the slots among the calls answer
+abbrev pub answers : Head → List Call → List (Bool × Frame)
+answers h [] = []
+answers h (receive f ∷ cs) = answers (called h (receive f)) cs
+answers h (tick ∷ cs) = answers (called h tick) cs
+answers h (sample s ∷ cs) = answers (called h (sample s)) cs
+answers h (slot ∷ cs) = answer h ∷ answers (called h slot) cs
+
+-- `?`, `?`, `S 69637`, `?`, `F 601 8 40 04 60 00 00 00 00 00`, `?`, `S -`, `?`, `?`
+abbrev pub session : List Call
+session = slot ∷ slot ∷ sample (Raw 69637) ∷ slot ∷ request (bytes 0x40 0x04 0x60 0x00 0 0 0 0) ∷ slot ∷ sample Missing ∷ slot ∷ slot ∷ []
+
+pub record Worked : Type 0 where
+  pub p1 : Replies missing (bytes 0x40 0x01 0x65 0x00 0 0 0 0) (bytes 0x43 0x01 0x65 0x00 0x88 0x13 0x00 0x00)
+  pub p2 : Replies missing (bytes 0x2B 0x00 0x62 0x00 0x64 0x00 0 0) (bytes 0x60 0x00 0x62 0x00 0 0 0 0)
+  pub p3 : Replies missing (bytes 0x2F 0x17 0x10 0x00 0x88 0x13 0 0) (bytes 0x80 0x17 0x10 0x00 0x13 0x00 0x07 0x06)
+  pub p4 : Replies missing (bytes 0x20 0x02 0x21 0x00 0xF4 0x01 0 0) (bytes 0x80 0x02 0x21 0x00 0x01 0x00 0x04 0x05)
+  pub p5 : Replies missing (bytes 0x2B 0x00 0x60 0x00 0x01 0x00 0 0) (bytes 0x80 0x00 0x60 0x00 0x30 0x00 0x09 0x06)
+  pub p6 : Reads missing (bytes 0x80 0x04 0x60 0x00 0x24 0x00 0x00 0x08)
+  pub p7 : Reads (at 69637) (bytes 0x43 0x04 0x60 0x00 0x05 0x10 0x01 0x00)
+  -- 1,048,575
+  pub p8 : Reads (at 0 ++ inverted) (bytes 0x43 0x04 0x60 0x00 0xFF 0xFF 0x0F 0x00)
+  pub p9 : Reads (at 6 ++ coarse) (bytes 0x43 0x04 0x60 0x00 3 0 0 0) × Reads (at 7 ++ coarse) (bytes 0x43 0x04 0x60 0x00 3 0 0 0)
+  -- −60; 1,048,566
+  pub p10 : Replies (at 100 ++ preset) (bytes 0x40 0x09 0x65 0x00 0 0 0 0) (bytes 0x43 0x09 0x65 0x00 0xC4 0xFF 0xFF 0xFF)
+      × Reads (at 100 ++ preset ++ sample (Raw 50) ∷ []) (bytes 0x43 0x04 0x60 0x00 0xF6 0xFF 0x0F 0x00)
+  pub p11 : Replies missing (bytes 0x40 0x01 0x18 0x03 0 0 0 0) (bytes 0x80 0x01 0x18 0x03 0x11 0x00 0x09 0x06)
+  -- 999; 1,000 with scaling off
+  pub p12 : Replies missing (bytes 0x23 0x02 0x60 0x00 0xE7 0x03 0 0) (bytes 0x80 0x02 0x60 0x00 0x30 0x00 0x09 0x06)
+      × Replies missing (bytes 0x23 0x02 0x60 0x00 0xE8 0x03 0 0) (bytes 0x80 0x02 0x60 0x00 0x22 0x00 0x00 0x08)
+  pub prints : answers node1 session
+      ≡ sends 0x701 1 (0x00 ∷ [])
+      ∷ sends 0x081 8 (bytes 0x00 0x50 0x01 0 0 0 0 0)
+      ∷ sends 0x081 8 (bytes 0 0 0 0 0 0 0 0)
+      ∷ sends 0x581 8 (bytes 0x43 0x04 0x60 0x00 0x05 0x10 0x01 0x00)
+      ∷ sends 0x081 8 (bytes 0x00 0x50 0x01 0 0 0 0 0)
+      ∷ (false, noFrame)
+      ∷ []
