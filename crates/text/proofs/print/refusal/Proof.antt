@@ -1,0 +1,28 @@
+-- `print::refusal` meets its contract, byte by byte. Assumes nothing.
+use borrow.Author.Needs.{needs}
+use Rattle.text.specs.Printed.{refusalText}
+use Rattle.text.proofs.Growing.{push-line}
+use Rattle.text.proofs.print.refusal.Statement.{statement}
+use Rattle.text.proofs.print.refusal.Tie as tie
+
+empty-requires : tie.Need-empty-requires
+empty-requires c κs = search needs
+
+push-requires : tie.Need-push-requires
+push-requires c κs = search needs
+
+push-requires-2 : tie.Need-push-requires-2
+push-requires-2 c κs = search needs
+
+digit-requires : tie.Need-digit-requires
+digit-requires c κs = search needs
+
+push-requires-3 : tie.Need-push-requires-3
+push-requires-3 c κs = search needs
+
+returns : tie.Need-returns
+unfolding refusalText
+returns c = rw (c .push3 .ensures, c .before .digit .ensures, c .before .before .push2 .ensures, c .before .before .before .push .ensures, c .before .before .before .before .empty .ensures, push-line, push-line, push-line, push-line)
+
+pub refusal-spec : {M : Type 1} → statement M
+refusal-spec = tie.close (tie.spec empty-requires push-requires push-requires-2 digit-requires push-requires-3 returns)

@@ -1,0 +1,9 @@
+-- Quoted text as bytes, for the definitions that name letters of 01's session program.
+use Prim.Native.Nat.{ℕ}
+use Prim.Native.Char.{code}
+use Prim.Native.String.{String, [], _∷_}
+use mathlib.Core.List.{List, [] as []ᴸ, _∷_ as _∷ᴸ_}
+
+abbrev pub ascii : String → List ℕ
+ascii [] = []ᴸ
+ascii (c ∷ s) = code c ∷ᴸ ascii s
