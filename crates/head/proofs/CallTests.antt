@@ -15,15 +15,15 @@ use Rattle.waiting.specs.Line.{first}
 use Rattle.head.specs.declared.Head.{Head}
 use Rattle.head.specs.declared.Sent.{Sent}
 use Rattle.head.specs.declared.Sensor.the-variants.{Missing, Raw}
-use Rattle.head.specs.States.{isInitialising, started}
+use Rattle.head.specs.States.{operational, isIn, isInitialising, communication, started}
 use Rattle.head.specs.Timers.{timersTicked}
-use Rattle.head.specs.Acts.{Act, nothing, take, lose, time, acted, timing, timeMoments, ever, settledTo, act, frameBy}
+use Rattle.head.specs.Acts.{Act, nothing, take, lose, time, acted, timing, timeMoments, emergencyOnly, settledTo, act, frameBy}
 use Rattle.head.specs.Calls.{Call, receive, tick, sample, slot, timed, sampledAs, sentBy, step, answered, noIdentity, poweredUp, received, ticked, sampled, isFrame, frameIn, slotted}
 use Rattle.head.specs.Valid.{Valid}
 use Rattle.head.proofs.Nothing.{act-nothing}
 use Rattle.head.proofs.CommandTests.{none-acts}
 use Rattle.head.proofs.Valid.{valid-step, valid-started}
-use Rattle.head.proofs.SlotTests.{slot-waits, slot-settles}
+use Rattle.head.proofs.SlotTests.{slot-waits, left, slot-settles}
 
 pub powers-up : (n : ℕ) (i : Identity) → within 1 127 n ≡ true → ValidIdentity i → (answered 0 (started n i) ≡ poweredUp n i) × Valid (started n i)
 powers-up n i e v = let b = both _ _ e in rw e (refl, valid-started n i (leb-true _ _ (b .0)) (leb-true _ _ (b .1)) v)
@@ -42,7 +42,7 @@ module _ (h : Head) (v : Valid h) where
   pub ticks-idle : isInitialising (h .core) ≡ true → (h ≡ ticked h) × Valid h
   ticks-idle e = (none-acts h _ (rw e), v)
 
-  pub ticks-on : isInitialising (h .core) ≡ false → let r = settledTo false h (timing (h .core) (timersTicked (h .core))) (timeMoments (h .core)) in (r ≡ ticked h) × Valid r
+  pub ticks-on : isInitialising (h .core) ≡ false → let r = settledTo false h (timing (h .core) (timersTicked (isIn operational (h .core)) (communication (h .core)) (h .core .timers))) (timeMoments (communication (h .core)) (h .core .timers)) in (r ≡ ticked h) × Valid r
   unfolding act
   ticks-on e = let m : timed (h .core) ≡ time = rw e in let p = sym (ap (act false h) m) in (p, leaves tick p)
 
@@ -61,7 +61,7 @@ module _ (h : Head) (v : Valid h) where
 
   pub sends-first :
       let a = sentBy (h .core) (first (h .line)) in
-      let r = settledTo true h (acted (h .core) a) ever in
+      let r = settledTo false (left h) (acted (h .core) a) emergencyOnly in
       let s : Sent = record { waited = isInitialising (h .core) || not (eqb (first (h .line)) 0); frame = frameIn (frameBy (h .core) a); head = r } in
       (s ≡ slotted h) × Valid r
   sends-first = rw (slot-settles h, ← slot-waits (h .core) (first (h .line))) (refl, valid-step h slot v)

@@ -6,9 +6,9 @@ use mathlib.Core.Bool.{Bool, true, false, _&&_, _||_, cond}
 use Rattle.can.specs.declared.Received.{Received}
 use Rattle.cases.proofs.Cases.{by₂}
 use Rattle.head.specs.declared.Head.{Head}
-use Rattle.head.specs.States.{Goal, operational, state, isIn, node, Reset, restored, Command, noCommand, start, restart, command, resetCommand, byteOf, commandOf}
+use Rattle.head.specs.States.{Goal, operational, state, isIn, node, communication, Reset, restored, Command, noCommand, toEnter, toReset, command, resetCommand, byteOf, commandOf}
 use Rattle.head.specs.Timers.{timersSynced}
-use Rattle.head.specs.Acts.{Act, nothing, reset, sync, resetWith, ever, timing, syncMoments, settledTo, act}
+use Rattle.head.specs.Acts.{Act, nothing, reset, sync, resetWith, emergencyOnly, timing, syncMoments, settledTo, act}
 use Rattle.head.specs.Calls.{commanded, synchronised}
 use Rattle.head.specs.Steps.{entering}
 use Rattle.head.proofs.Nothing.{act-nothing}
@@ -18,11 +18,11 @@ pub none-acts : (h : Head) (a : Act) → a ≡ nothing → h ≡ act false h a
 none-acts h a e = sym (ap (act false h) e ∙ act-nothing h)
 
 module _ (h : Head) where
-  pub enters : (g : Goal) → entering h (state g) ≡ act false h (commanded (h .core) (start g))
+  pub enters : (g : Goal) → entering h (state g) ≡ act false h (commanded (h .core) (toEnter g))
   unfolding act
   enters g = by₂ (λ (r : Head) (a : Act). r ≡ act false h a) (isIn g (h .core)) (λ e. sym (act-nothing h)) (λ e. refl)
 
-  pub resets : (r : Reset) → settledTo false h (resetWith (h .core) (restored r (h .core .device .settings) (h .core .device .saved))) ever ≡ act false h (reset r)
+  pub resets : (r : Reset) → settledTo false h (resetWith (h .core) (restored r (h .core .device .settings) (h .core .device .saved))) emergencyOnly ≡ act false h (reset r)
   unfolding act
   resets r = refl
 
@@ -44,6 +44,6 @@ module _ (h : Head) where
     no-sync e = none-acts h _ (rw e)
 
     pub syncs : (leb length 1 && isIn operational (h .core)) ≡ true
-        → settledTo false h (timing (h .core) (timersSynced (h .core))) (syncMoments (h .core)) ≡ act false h (synchronised (h .core) length)
+        → settledTo false h (timing (h .core) (timersSynced (communication (h .core)) (h .core .timers))) (syncMoments (communication (h .core)) (h .core .timers)) ≡ act false h (synchronised (h .core) length)
     unfolding act
     syncs e = let m : synchronised (h .core) length ≡ sync = rw e in sym (ap (act false h) m)

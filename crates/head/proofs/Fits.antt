@@ -15,7 +15,7 @@ use Rattle.head.specs.declared.Core.{Core}
 use Rattle.head.specs.declared.Head.{Head}
 use Rattle.head.specs.declared.Sensor.{Sensor}
 use Rattle.head.specs.declared.Sensor.the-variants.{Missing, Raw}
-use Rattle.head.specs.States.{operational, isIn, isInitialising, isLive, node, Command, noCommand, start, restart, commandOf}
+use Rattle.head.specs.States.{operational, isIn, isInitialising, isLive, node, Command, noCommand, toEnter, toReset, commandOf}
 use Rattle.head.specs.Acts.{Act, nothing, enter, reset, boot, idle, send, take, lose, time, sync, serve}
 use Rattle.head.specs.Calls.{Call, receive, tick, sample, slot, isSlot, commanded, synchronised, requested, meant}
 use Rattle.head.proofs.Hearing.{heard-by}
@@ -43,8 +43,8 @@ module _ (h : Head) where
 
   fits-command : (x : Command) → isInitialising c ≡ false → Here (commanded c x)
   fits-command noCommand i = refl
-  fits-command (start g) i = by Here (isIn g c) (λ _. refl) (λ _. i)
-  fits-command (restart r) i = i
+  fits-command (toEnter g) i = by Here (isIn g c) (λ _. refl) (λ _. i)
+  fits-command (toReset r) i = i
 
   fits-sync : (length : ℕ) → Here (synchronised c length)
   fits-sync length = by Here (leb length 1 && isIn operational c) (λ t. both (leb length 1) (isIn operational c) t .1) (λ _. refl)

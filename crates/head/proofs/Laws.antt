@@ -13,7 +13,7 @@ use Rattle.dictionary.specs.Valid.{ValidIdentity}
 use Rattle.head.specs.declared.Head.{Head}
 use Rattle.head.specs.declared.Answer.{Answer}
 use Rattle.head.specs.WaitingLine.{emergency, may}
-use Rattle.head.specs.Acts.{act}
+use Rattle.head.specs.Acts.{settledTo, act}
 use Rattle.head.specs.Calls.{receive, tick, badSample, noIdentity, poweredUp}
 use Rattle.head.specs.Valid.{waits, Valid}
 use Rattle.head.specs.Laws.{OneOutcome, Laws}
@@ -44,7 +44,7 @@ one-outcome : {A : Type 0} (due : A) → OneOutcome due
 one-outcome due x y p q = p ∙ sym q
 
 pub laws : Laws
-unfolding act
+unfolding act settledTo
 laws =
     record {
       powered-valid = powered-valid;

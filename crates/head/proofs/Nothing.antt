@@ -4,11 +4,11 @@ use mathlib.Core.Bool.{false, and-not-self}
 use mathlib.Core.List.{[]}
 use Rattle.waiting.specs.Calls.{withdrawsIn}
 use Rattle.head.specs.declared.Head.{Head}
-use Rattle.head.specs.Acts.{nothing, act, goes}
+use Rattle.head.specs.Acts.{nothing, settledTo, act, goes}
 use Rattle.head.specs.Calls.{Call, isSlot, meant, step}
 
 pub act-nothing : (h : Head) → act false h nothing ≡ h
-unfolding act
+unfolding act settledTo
 act-nothing h =
     let none-goes : goes (h .core) (h .core) ≡ [] = simp and-not-self in
     ap {B = Head} (λ out. record { core = h .core; line = withdrawsIn (h .line) out }) none-goes

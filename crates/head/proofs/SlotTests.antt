@@ -7,11 +7,12 @@ use borrow.Author.Tests.{eqb-true, ne-eqb}
 use Rattle.cases.proofs.Cases.{by, cond-ap}
 use mathlib.Core.List.{[], _∷_}
 use Rattle.waiting.specs.Line.{first}
+use Rattle.waiting.specs.Places.{takenIn}
 use Rattle.head.specs.declared.Core.{Core}
 use Rattle.head.specs.declared.Head.{Head}
-use Rattle.head.specs.declared.Sent.{Sent}
+use Rattle.head.specs.declared.settle.Flags.{Flags}
 use Rattle.head.specs.States.{one, two, isInitialising, node}
-use Rattle.head.specs.Acts.{Act, boot, idle, send, sending, acted, moments, ever, settledTo, act, frameBy}
+use Rattle.head.specs.Acts.{Act, boot, idle, send, sending, acted, moments, emergencyOnly, settledTo, act, frameBy}
 use Rattle.head.specs.Calls.{sentBy, isFrame, frameIn, slotted}
 use Rattle.head.specs.WaitingLine.{Kind, emergency, sdoReply, heartbeat, tpdo, number, kindOf, frame}
 use Rattle.head.specs.Steps.{pdoOf}
@@ -21,8 +22,8 @@ module _ (c : Core) (k : ℕ) where
   pub each-act : (P : Act → Type 0) → (isInitialising c ≡ true → P boot) → (isInitialising c ≡ false → eqb k 0 ≡ true → P idle) → (isInitialising c ≡ false → eqb k 0 ≡ false → P (send (kindOf k))) → P (sentBy c k)
   each-act P b i s = by P (isInitialising c) b (λ e. by P (eqb k 0) (i e) (s e))
 
-  slot-moments : moments c (sentBy c k) ≡ ever
-  slot-moments = each-act (λ a. moments c a ≡ ever) (λ e. refl) (λ e n. refl) (λ e n. refl)
+  slot-moments : moments c (sentBy c k) ≡ emergencyOnly
+  slot-moments = each-act (λ a. moments c a ≡ emergencyOnly) (λ e. refl) (λ e n. refl) (λ e n. refl)
 
   -- one frame, or none exactly if none waits
   pub slot-waits : isFrame (frameBy c (sentBy c k)) ≡ (isInitialising c || not (eqb k 0))
@@ -66,8 +67,16 @@ module _ (c : Core) (k : ℕ) where
   pub boot-frame : isInitialising c ≡ true → frame (0x700 + node c) 1 (c .nmt .code ∷ []) ≡ frameIn (frameBy c (sentBy c k))
   boot-frame e = ap (λ n. frame (0x700 + node c) 1 (n ∷ [])) (eqb-true (c .nmt .code) 0 e) ∙ frame-as boot (boots e)
 
-pub slot-settles : (h : Head) → let a = sentBy (h .core) (first (h .line)) in settledTo true h (acted (h .core) a) ever ≡ act true h a
+-- a head whose first was sent
+abbrev pub left : Head → Head
+left h = record { core = h .core; line = takenIn (h .line) }
+
+left-settles : (h : Head) (c : Core) (due : Flags) → settledTo false (left h) c due ≡ settledTo true h c due
+unfolding settledTo
+left-settles h c due = refl
+
+pub slot-settles : (h : Head) → let a = sentBy (h .core) (first (h .line)) in settledTo false (left h) (acted (h .core) a) emergencyOnly ≡ act true h a
 unfolding act
 slot-settles h =
     let a = sentBy (h .core) (first (h .line)) in
-    ap {B = Head} (settledTo true h (acted (h .core) a)) (sym (slot-moments (h .core) (first (h .line))))
+    left-settles h (acted (h .core) a) emergencyOnly ∙ ap (settledTo true h (acted (h .core) a)) (sym (slot-moments (h .core) (first (h .line))))

@@ -14,7 +14,7 @@ use Rattle.waiting.proofs.Laws.{laws}
 use Rattle.head.specs.declared.Head.{Head}
 use Rattle.head.specs.States.{one, two, started}
 use Rattle.head.specs.WaitingLine.{Kind, emergency, sdoReply, heartbeat, tpdo, flag, may}
-use Rattle.head.specs.Acts.{Act, nothing, enter, reset, boot, idle, send, take, lose, time, sync, serve, acted, moments, act}
+use Rattle.head.specs.Acts.{Act, nothing, enter, reset, boot, idle, send, take, lose, time, sync, serve, acted, moments, settledTo, act}
 use Rattle.head.specs.Calls.{Call, isSlot, meant, step}
 use Rattle.head.specs.Valid.{waits, Valid}
 use Rattle.head.proofs.Nothing.{act-nothing}
@@ -55,7 +55,7 @@ module _ (b : Bool) (h : Head) where
       stays-may (flag (moments c a) k) (may c k) (may (acted c a) k) (not (sends b h k)) (waits h k) (v .only k) (sym (waits-act b h a v k) ∙ e)
 
   pub valid-act : (a : Act) → Fits b (h .core) a → Valid h → Valid (act b h a)
-  unfolding act
+  unfolding act settledTo
   valid-act a f v =
       record {
         device = device-act b (h .core) a f (v .device);

@@ -11,7 +11,7 @@ use Rattle.waiting.proofs.Laws.{laws, in-turn}
 use Rattle.head.specs.declared.Head.{Head}
 use Rattle.head.specs.States.{one, two}
 use Rattle.head.specs.WaitingLine.{Kind, emergency, sdoReply, heartbeat, tpdo, number, kindOf, those, flag, may}
-use Rattle.head.specs.Acts.{Act, acted, moments, goes, comes, act}
+use Rattle.head.specs.Acts.{Act, acted, moments, goes, comes, settledTo, act}
 use Rattle.head.specs.Valid.{waits, Valid}
 
 kind-of : (k : Kind) → kindOf (number k) ≡ k
@@ -46,7 +46,7 @@ module _ (slot : Bool) (h : Head) (a : Act) (v : Valid h) where
   into = comes (moments (h .core) a) (acted (h .core) a)
 
   pub holds-act : Holds places (act slot h a .line) (after slot out into (waiting (h .line)))
-  unfolding act
+  unfolding act settledTo
   holds-act = laws places .holds slot out into (named-those (λ k. flag (moments (h .core) a) k && may (acted (h .core) a) k)) (v .line)
 
   pub waits-act : (k : Kind)

@@ -4,11 +4,11 @@ use Rattle.dictionary.specs.Table.{entries, table, lookup}
 use Rattle.dictionary.specs.Reads.{shownAt}
 use Rattle.dictionary.specs.Writes.{written}
 use Rattle.sdo.specs.Service.{due}
-use Rattle.head.specs.Acts.{act}
+use Rattle.head.specs.Acts.{settledTo, act}
 use Rattle.head.specs.Worked.{Worked}
 
 pub worked : Worked
-unfolding entries table lookup shownAt written due act
+unfolding entries table lookup shownAt written due act settledTo
 worked =
     record {
       p1 = refl;

@@ -5,7 +5,9 @@ use mathlib.Core.Bool.{Bool, true, false, not, _&&_, _||_, cond}
 use mathlib.Core.List.{List, [], _∷_}
 use mathlib.Core.Option.{Option, none, some}
 use Rattle.can.specs.declared.Frame.{Frame}
+use Rattle.dictionary.specs.declared.Communication.{Communication}
 use Rattle.dictionary.specs.declared.Device.{Device}
+use Rattle.dictionary.specs.declared.Pdo.{Pdo}
 use Rattle.dictionary.specs.declared.Reading.{Reading}
 use Rattle.dictionary.specs.declared.Settings.{Settings}
 use Rattle.sdo.specs.declared.reply.Effect.{Effect}
@@ -13,12 +15,12 @@ use Rattle.sdo.specs.declared.reply.Effect.the-variants.{Nothing, Reply, Write}
 use Rattle.sdo.specs.declared.reply.Served.{Served}
 use Rattle.sdo.specs.Reply.{carriedOut}
 use Rattle.waiting.specs.Calls.{afterIn, withdrawsIn, joinsIn}
-use Rattle.head.specs.declared.nmt.Nmt.{Nmt}
+use Rattle.head.specs.declared.state.Nmt.{Nmt}
 use Rattle.head.specs.declared.Timers.{Timers}
 use Rattle.head.specs.declared.Core.{Core}
 use Rattle.head.specs.declared.Head.{Head}
 use Rattle.head.specs.declared.settle.Flags.{Flags}
-use Rattle.head.specs.States.{Goal, operational, preOperational, state, initialising, Reset, restored, communication, good, Which, one, two, pdo, clock, uncounted, atRest, missingReading}
+use Rattle.head.specs.States.{Goal, operational, preOperational, code, state, initialising, isIn, Reset, restored, communication, good, uncounted, atRest, missingReading}
 use Rattle.head.specs.WaitingLine.{Kind, emergency, sdoReply, heartbeat, tpdo, those, flag, flags, may, mays, bootUpFrame, frameOf}
 use Rattle.head.specs.Timers.{inhibitTicks, completes, synchronous, eventDue, syncDue, timersTicked, timersSynced, timersWritten}
 
@@ -118,46 +120,42 @@ acted c idle = c
 acted c (send k) = sending c k
 acted c (take r) = taking c r
 acted c lose = losing c
-acted c time = timing c (timersTicked c)
-acted c sync = timing c (timersSynced c)
+acted c time = timing c (timersTicked (isIn operational c) (communication c) (c .timers))
+acted c sync = timing c (timersSynced (communication c) (c .timers))
 acted c (serve s) = serving c s
 
 -- The moments at which a kind joins, if it may: emergency, SDO reply, heartbeat, TPDO1, TPDO2.
 -- The emergency's is any call that does something, so that it waits exactly while its condition holds.
-abbrev pub ever : Flags
-ever = flags true false false false false
+abbrev pub emergencyOnly : Flags
+emergencyOnly = flags true false false false false
 
 -- Types 254 and 255: on entering Operational
-abbrev pub entryDue : Core → Nmt → Which → Bool
-entryDue c s w = eqb (s .code) (state operational .code) && not (synchronous (pdo (communication c) w))
+abbrev pub entryDue : Nmt → Pdo → Bool
+entryDue entered p = eqb (entered .code) (code operational) && not (synchronous p)
 
-abbrev pub entryMoments : Core → Nmt → Flags
-entryMoments c s = flags true false false (entryDue c s one) (entryDue c s two)
+abbrev pub entryMoments : Communication → Nmt → Flags
+entryMoments s entered = flags true false false (entryDue entered (s .pdo1)) (entryDue entered (s .pdo2))
 
-abbrev pub timeMoments : Core → Flags
-timeMoments c =
-    flags true false (completes (communication c .heartbeat) (c .timers .heartbeat))
-    (eventDue (pdo (communication c) one) (clock (c .timers) one))
-    (eventDue (pdo (communication c) two) (clock (c .timers) two))
+abbrev pub timeMoments : Communication → Timers → Flags
+timeMoments s t = flags true false (completes (s .heartbeat) (t .heartbeat)) (eventDue (s .pdo1) (t .pdo1)) (eventDue (s .pdo2) (t .pdo2))
 
-abbrev pub syncMoments : Core → Flags
-syncMoments c =
-    flags true false false (syncDue (pdo (communication c) one) (clock (c .timers) one)) (syncDue (pdo (communication c) two) (clock (c .timers) two))
+abbrev pub syncMoments : Communication → Timers → Flags
+syncMoments s t = flags true false false (syncDue (s .pdo1) (t .pdo1)) (syncDue (s .pdo2) (t .pdo2))
 
 abbrev pub requestMoments : Flags
 requestMoments = flags true true false false false
 
 abbrev pub moments : Core → Act → Flags
 moments c nothing = flags false false false false false
-moments c (enter g) = entryMoments c (state g)
-moments c (reset r) = ever
-moments c boot = ever
-moments c idle = ever
-moments c (send k) = ever
-moments c (take r) = ever
-moments c lose = ever
-moments c time = timeMoments c
-moments c sync = syncMoments c
+moments c (enter g) = entryMoments (communication c) (state g)
+moments c (reset r) = emergencyOnly
+moments c boot = emergencyOnly
+moments c idle = emergencyOnly
+moments c (send k) = emergencyOnly
+moments c (take r) = emergencyOnly
+moments c lose = emergencyOnly
+moments c time = timeMoments (communication c) (c .timers)
+moments c sync = syncMoments (communication c) (c .timers)
 moments c (serve s) = requestMoments
 
 -- A kind goes when its condition ends; it joins when it is its moment and it may.
@@ -168,7 +166,7 @@ abbrev pub comes : Flags → Core → List ℕ
 comes due after = those (λ k. flag due k && may after k)
 
 -- a head with another core, whose line has settled; `slot`: its first was sent
-abbrev pub settledTo : Bool → Head → Core → Flags → Head
+unfoldable pub settledTo : Bool → Head → Core → Flags → Head
 settledTo slot h after due = record { core = after; line = afterIn slot (goes (h .core) after) (comes due after) (h .line) }
 
 unfoldable pub act : Bool → Head → Act → Head

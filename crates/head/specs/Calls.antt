@@ -21,7 +21,7 @@ use Rattle.head.specs.declared.Answer.{Answer}
 use Rattle.head.specs.declared.Sent.{Sent}
 use Rattle.head.specs.declared.Sensor.{Sensor}
 use Rattle.head.specs.declared.Sensor.the-variants.{Missing, Raw}
-use Rattle.head.specs.States.{Goal, operational, code, isIn, isInitialising, isLive, node, started, Command, noCommand, start, restart, commandOf}
+use Rattle.head.specs.States.{Goal, operational, code, isIn, isInitialising, isLive, node, started, Command, noCommand, toEnter, toReset, commandOf}
 use Rattle.head.specs.WaitingLine.{kindOf, frame}
 use Rattle.head.specs.Acts.{Act, nothing, enter, reset, boot, idle, send, take, lose, time, sync, serve, act, frameBy}
 
@@ -41,8 +41,8 @@ isSlot slot = true
 -- others have no effect, nor does a command naming the present state
 abbrev pub commanded : Core → Command → Act
 commanded c noCommand = nothing
-commanded c (start g) = cond (isIn g c) nothing (enter g)
-commanded c (restart r) = reset r
+commanded c (toEnter g) = cond (isIn g c) nothing (enter g)
+commanded c (toReset r) = reset r
 
 -- SYNC (080h, data, length 0 or 1, Operational only)
 abbrev pub synchronised : Core → ℕ → Act

@@ -14,7 +14,7 @@ use Rattle.waiting.specs.Line.{places, first, Kinds}
 use Rattle.waiting.specs.Places.{waiting}
 use Rattle.head.specs.declared.Head.{Head}
 use Rattle.head.specs.declared.Sensor.{Sensor}
-use Rattle.head.specs.States.{Goal, operational, preOperational, state, isIn, isInitialising, isLive, node, started, noCommand, start, command, byteOf}
+use Rattle.head.specs.States.{Goal, operational, preOperational, state, isIn, isInitialising, isLive, node, started, noCommand, toEnter, command, byteOf}
 use Rattle.head.specs.WaitingLine.{Kind, emergency, sdoReply, number, may, bootUpFrame, frameOf}
 use Rattle.head.specs.Calls.{Call, step, badSample, noIdentity, poweredUp, received, ticked, sampled, slotted}
 use Rattle.head.specs.Valid.{waits, Valid}
@@ -34,7 +34,7 @@ pub data NotMeant (h : Head) (f : Received) : Type 0 where
   -- others have no effect,
   other-command : f .identifier ≡ 0x000 → command (byteOf f 0) ≡ noCommand → NotMeant h f
   -- nor does a command naming the present state
-  state-held : (g : Goal) → f .identifier ≡ 0x000 → command (byteOf f 0) ≡ start g → isIn g (h .core) ≡ true → NotMeant h f
+  state-held : (g : Goal) → f .identifier ≡ 0x000 → command (byteOf f 0) ≡ toEnter g → isIn g (h .core) ≡ true → NotMeant h f
   -- SYNC (080h, data, length 0 or 1, Operational only)
   sync-length : f .identifier ≡ 0x080 → 1 < f .length → NotMeant h f
   sync-state : f .identifier ≡ 0x080 → isIn operational (h .core) ≡ false → NotMeant h f

@@ -14,7 +14,7 @@ use Rattle.dictionary.specs.declared.Settings.{Settings}
 use Rattle.dictionary.specs.Settings.{factory}
 use Rattle.waiting.specs.Line.{places}
 use Rattle.waiting.specs.Places.{pad}
-use Rattle.head.specs.declared.nmt.Nmt.{Nmt}
+use Rattle.head.specs.declared.state.Nmt.{Nmt}
 use Rattle.head.specs.declared.Clock.{Clock}
 use Rattle.head.specs.declared.Timers.{Timers}
 use Rattle.head.specs.declared.Core.{Core}
@@ -48,8 +48,11 @@ abbrev pub isInitialising : Core → Bool
 isInitialising c = eqb (c .nmt .code) initialisingCode
 
 -- Pre-operational or Operational
+abbrev pub live : Nmt → Bool
+live s = eqb (s .code) (code preOperational) || eqb (s .code) (code operational)
+
 abbrev pub isLive : Core → Bool
-isLive c = isIn preOperational c || isIn operational c
+isLive c = live (c .nmt)
 
 abbrev pub node : Core → ℕ
 node c = c .device .node
@@ -119,14 +122,14 @@ restored ofCommunication present saved = record { communication = saved .communi
 -- 01h Operational, 02h Stopped, 80h Pre-operational, 81h reset node, 82h reset communication; others have no effect.
 pub data Command : Type 0 where
   noCommand : Command
-  start : Goal → Command
-  restart : Reset → Command
+  toEnter : Goal → Command
+  toReset : Reset → Command
 
 abbrev pub resetCommand : ℕ → Command
-resetCommand b = firstOf ((eqb b 0x81, restart ofNode) ∷ (eqb b 0x82, restart ofCommunication) ∷ []) noCommand
+resetCommand b = firstOf ((eqb b 0x81, toReset ofNode) ∷ (eqb b 0x82, toReset ofCommunication) ∷ []) noCommand
 
 abbrev pub command : ℕ → Command
-command b = firstOf ((eqb b 0x01, start operational) ∷ (eqb b 0x02, start stopped) ∷ (eqb b 0x80, start preOperational) ∷ []) (resetCommand b)
+command b = firstOf ((eqb b 0x01, toEnter operational) ∷ (eqb b 0x02, toEnter stopped) ∷ (eqb b 0x80, toEnter preOperational) ∷ []) (resetCommand b)
 
 abbrev pub byteOf : Received → ℕ → ℕ
 byteOf f i = getD (f .bytes) i 0

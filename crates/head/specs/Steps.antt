@@ -12,15 +12,15 @@ use Rattle.sdo.specs.declared.reply.Effect.the-variants.{Nothing, Reply, Write}
 use Rattle.sdo.specs.declared.reply.Served.{Served}
 use Rattle.waiting.specs.Line as line
 use Rattle.waiting.specs.Calls.{withdrawsIn, joinsIn}
-use Rattle.head.specs.declared.nmt.Nmt.{Nmt}
+use Rattle.head.specs.declared.state.Nmt.{Nmt}
 use Rattle.head.specs.declared.Head.{Head}
 use Rattle.head.specs.declared.settle.Flags.{Flags}
-use Rattle.head.specs.States.{Which, one, two}
+use Rattle.head.specs.States.{Which, one, two, communication}
 use Rattle.head.specs.WaitingLine.{those, flag}
 use Rattle.head.specs.Acts.{entered, entryMoments, settledTo}
 
 abbrev pub entering : Head → Nmt → Head
-entering h s = cond (eqb (h .core .nmt .code) (s .code)) h (settledTo false h (entered (h .core) s) (entryMoments (h .core) s))
+entering h s = cond (eqb (h .core .nmt .code) (s .code)) h (settledTo false h (entered (h .core) s) (entryMoments (communication (h .core)) s))
 
 abbrev pub settledLine : List ℕ → Flags → Flags → Flags → List ℕ
 settledLine l before after due = joinsIn (withdrawsIn l (those (λ k. flag before k && not (flag after k)))) (those (λ k. flag due k && flag after k))

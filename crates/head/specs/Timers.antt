@@ -7,8 +7,6 @@ use Rattle.dictionary.specs.declared.Communication.{Communication}
 use Rattle.dictionary.specs.Accepted.{within, on}
 use Rattle.head.specs.declared.Clock.{Clock}
 use Rattle.head.specs.declared.Timers.{Timers}
-use Rattle.head.specs.declared.Core.{Core}
-use Rattle.head.specs.States.{Which, one, two, operational, isIn, communication, pdo, clock}
 
 -- for 1015h = v (100 µs units) none if v = 0, else v/10 rounded up, plus 1, ticks
 abbrev pub inhibitTicks : ℕ → ℕ
@@ -44,22 +42,22 @@ abbrev pub ifRunning : Bool → Pdo → Clock → Clock
 ifRunning runs p k = cond runs (clockTicked p k) k
 
 -- A tick: the inhibit time has one less to run, the heartbeat's count goes on, and in Operational the PDOs'.
-abbrev pub timersTicked : Core → Timers
-timersTicked c =
+abbrev pub timersTicked : Bool → Communication → Timers → Timers
+timersTicked operational s t =
     record {
-      inhibit = c .timers .inhibit - 1;
-      heartbeat = counted (communication c .heartbeat) (c .timers .heartbeat);
-      pdo1 = ifRunning (isIn operational c) (pdo (communication c) one) (c .timers .pdo1);
-      pdo2 = ifRunning (isIn operational c) (pdo (communication c) two) (c .timers .pdo2);
+      inhibit = t .inhibit - 1;
+      heartbeat = counted (s .heartbeat) (t .heartbeat);
+      pdo1 = ifRunning operational (s .pdo1) (t .pdo1);
+      pdo2 = ifRunning operational (s .pdo2) (t .pdo2);
     }
 
-abbrev pub timersSynced : Core → Timers
-timersSynced c =
+abbrev pub timersSynced : Communication → Timers → Timers
+timersSynced s t =
     record {
-      inhibit = c .timers .inhibit;
-      heartbeat = c .timers .heartbeat;
-      pdo1 = clockSynced (pdo (communication c) one) (c .timers .pdo1);
-      pdo2 = clockSynced (pdo (communication c) two) (c .timers .pdo2);
+      inhibit = t .inhibit;
+      heartbeat = t .heartbeat;
+      pdo1 = clockSynced (s .pdo1) (t .pdo1);
+      pdo2 = clockSynced (s .pdo2) (t .pdo2);
     }
 
 -- bit 31 of sub 1 goes from 1 to 0

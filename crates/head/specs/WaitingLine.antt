@@ -1,7 +1,7 @@
 -- 01's chapter "The waiting line": the kinds, under which condition each can wait at all, and the frame that each sends.
-use Prim.Native.Nat.{ℕ, suc, _+_, _/_}
+use Prim.Native.Nat.{ℕ, _+_}
 use lib.Dec.{eqb}
-use mathlib.Core.Bool.{Bool, true, false, not, _&&_, _||_, Bool·beq, cond}
+use mathlib.Core.Bool.{Bool, not, _&&_, Bool·beq, cond}
 use mathlib.Core.List.{List, [], _∷_}
 use Rattle.cases.specs.Cases.{firstOf}
 use Rattle.can.specs.declared.Frame.{Frame}
@@ -12,9 +12,10 @@ use Rattle.waiting.specs.Line as line
 use Rattle.waiting.specs.Line.{order}
 use Rattle.waiting.specs.Places.{pad}
 use Rattle.waiting.specs.Calls.{thoseDue}
+use Rattle.head.specs.declared.state.Nmt.{Nmt}
 use Rattle.head.specs.declared.Core.{Core}
 use Rattle.head.specs.declared.settle.Flags.{Flags}
-use Rattle.head.specs.States.{Which, one, two, operational, isIn, isInitialising, isLive, node, communication, good, pdo, initialisingCode}
+use Rattle.head.specs.States.{Which, one, two, operational, code, live, isLive, node, communication, good, pdo, initialisingCode}
 
 -- Five kinds can wait: emergency, SDO reply, heartbeat, TPDO1, TPDO2. The last two are the position frames.
 pub data Kind : Type 0 where
@@ -55,20 +56,25 @@ flag f (tpdo two) = f .tpdo2
 abbrev pub flags : Bool → Bool → Bool → Bool → Bool → Flags
 flags e r h p q = record { emergency = e; reply = r; heartbeat = h; tpdo1 = p; tpdo2 = q }
 
--- the present reading (good or missing) differs from the one last announced
-abbrev pub differs : Core → Bool
-differs c = not (Bool·beq (good c) (c .announced))
+-- Emergency: waits exactly while the state is Pre-operational or Operational, bit 31 of 1014h is 0, no inhibit time runs,
+-- and the present reading (good or missing) differs from the one last announced.
+abbrev pub mayAlert : Nmt → ℕ → ℕ → Bool → Bool → Bool
+mayAlert s identifier inhibit good announced = live s && on identifier && eqb inhibit 0 && not (Bool·beq good announced)
 
--- The condition under which a kind can wait.
+-- Heartbeat: if H > 0; in Initialising only the boot-up frame waits.
+abbrev pub mayBeat : Nmt → ℕ → Bool
+mayBeat s period = not (eqb (s .code) initialisingCode) && not (eqb period 0)
+
+-- TPDO: only when Operational, switched on (bit 31 of sub 1 is 0) and the reading is good may it join.
+abbrev pub mayShow : Nmt → ℕ → Bool → Bool
+mayShow s identifier good = eqb (s .code) (code operational) && on identifier && good
+
+-- The condition under which a kind can wait. The SDO reply's is that of the request: Pre-operational or Operational.
 abbrev pub may : Core → Kind → Bool
--- Emergency: waits exactly while the state is Pre-operational or Operational, bit 31 of 1014h is 0, no inhibit time runs, and the present reading differs ..
-may c emergency = isLive c && on (communication c .emergency) && eqb (c .timers .inhibit) 0 && differs c
--- Service requests: Pre-operational or Operational
+may c emergency = mayAlert (c .nmt) (communication c .emergency) (c .timers .inhibit) (good c) (c .announced)
 may c sdoReply = isLive c
--- Heartbeat: if H > 0
-may c heartbeat = not (isInitialising c) && not (eqb (communication c .heartbeat) 0)
--- TPDO: only when Operational, switched on (bit 31 of sub 1 is 0) and the reading is good
-may c (tpdo w) = isIn operational c && on (pdo (communication c) w .identifier) && good c
+may c heartbeat = mayBeat (c .nmt) (communication c .heartbeat)
+may c (tpdo w) = mayShow (c .nmt) (pdo (communication c) w .identifier) (good c)
 
 abbrev pub mays : Core → Flags
 mays c = flags (may c emergency) (may c sdoReply) (may c heartbeat) (may c (tpdo one)) (may c (tpdo two))

@@ -2,24 +2,22 @@
 ghost use mathlib.Core.Path.{_≡_};
 ghost use Prim.Native.Nat.{_≤_};
 ghost use Rattle.waiting.specs.Places.{pad};
-ghost use Rattle.head.specs.WaitingLine.{Kind, may as mayOf, emergencyBytes};
+ghost use Rattle.head.specs.WaitingLine.{mayAlert, emergencyBytes};
 ghost use Rattle.head.specs.Timers.{inhibitTicks};
 ghost use Rattle.head.specs.Acts.{announcing as announcingOf};
 use crate::Core;
-use crate::nmt;
+use crate::state;
+use crate::state::Nmt;
 use can::Bytes;
+use dictionary::accept::is_on;
 
 // 1015h counts units of 100 µs, a tick is 1 ms.
 const UNITS_A_TICK: u32 = 10;
 
-pub fn may(core: Core) -> bool
-    ensures { λ r. ⌜ r ≡ mayOf core Kind.emergency ⌝ }
+pub fn may(state: Nmt, identifier: u32, inhibit: u32, good: bool, announced: bool) -> bool
+    ensures { λ r. ⌜ r ≡ mayAlert state identifier inhibit good announced ⌝ }
 {
-    let state = core.nmt;
-    nmt::is_live(state)
-        & dictionary::accept::is_on(core.device.settings.communication.emergency)
-        & (core.timers.inhibit == 0)
-        & (core.device.reading.good != core.announced)
+    state::is_live(state) & is_on(identifier) & (inhibit == 0) & (good != announced)
 }
 
 pub fn bytes(good: bool) -> Bytes

@@ -1,24 +1,11 @@
-//! The heartbeat: when it can wait, and when it is due.
+//! The heartbeat: when it can wait.
 ghost use mathlib.Core.Path.{_≡_};
-ghost use Rattle.head.specs.WaitingLine.{Kind, may as mayOf};
-ghost use Rattle.head.specs.States.{communication};
-ghost use Rattle.head.specs.Timers.{completes};
-use crate::Core;
-use crate::nmt;
-use crate::time;
+ghost use Rattle.head.specs.WaitingLine.{mayBeat};
+use crate::state;
+use crate::state::Nmt;
 
-pub fn may(core: Core) -> bool
-    ensures { λ r. ⌜ r ≡ mayOf core Kind.heartbeat ⌝ }
+pub fn may(state: Nmt, period: u32) -> bool
+    ensures { λ r. ⌜ r ≡ mayBeat state period ⌝ }
 {
-    let state = core.nmt;
-    !nmt::is_initialising(state) & (core.device.settings.communication.heartbeat != 0)
-}
-
-pub fn due(core: Core) -> bool
-    ensures { λ r. ⌜ r ≡ completes (communication core .heartbeat) (core .timers .heartbeat) ⌝ }
-{
-    time::completes(
-        core.device.settings.communication.heartbeat,
-        core.timers.heartbeat,
-    )
+    !state::is_initialising(state) & (period != 0)
 }

@@ -2,24 +2,27 @@
 ghost use mathlib.Core.Path.{_≡_};
 ghost use mathlib.Core.Bool.{false};
 ghost use Rattle.position.specs.Profile.{ValidProfile};
+ghost use Rattle.head.specs.States.{started as startedHead};
 ghost use Rattle.head.specs.Acts.{act};
 ghost use Rattle.head.specs.Calls.{heardUnrefused as heardAs, poweredUp, received, ticked, sampled, slotted};
 ghost use Rattle.head.specs.Valid.{Valid};
-use crate::nmt::Nmt;
-use crate::settle::Flags;
+use crate::state::Nmt;
 use can::Bytes;
 use can::Frame;
 use can::Received;
 use dictionary::Device;
 use dictionary::Identity;
+use dictionary::Reading;
+use dictionary::Settings;
 use waiting::Line;
 
 mod emergency;
 mod heartbeat;
-pub mod nmt;
+mod nmt;
 mod sending;
 mod service;
 mod settle;
+pub mod state;
 mod sync;
 mod tape;
 mod time;
@@ -91,7 +94,7 @@ pub fn power_up(node: u8, identity: Identity) -> Answer
     if (1 <= node) & (node <= 127) {
         return Answer {
             refusal: can::NO_REFUSAL,
-            head: nmt::started(node, identity),
+            head: started(node, identity),
         };
     }
     let none = Identity {
@@ -102,7 +105,33 @@ pub fn power_up(node: u8, identity: Identity) -> Answer
     };
     Answer {
         refusal: BAD_NODE,
-        head: nmt::started(1, none),
+        head: started(1, none),
+    }
+}
+
+fn started(node: u8, identity: Identity) -> Head
+    ensures { λ r. ⌜ r ≡ startedHead node identity ⌝ }
+{
+    let line = waiting::none();
+    Head {
+        core: Core {
+            device: Device {
+                node,
+                identity,
+                reading: Reading {
+                    good: false,
+                    raw: 0,
+                },
+                errors: 0,
+                settings: Settings::factory(node),
+                saved: Settings::factory(node),
+            },
+            nmt: Nmt::INITIALISING,
+            announced: true,
+            timers: time::at_rest(),
+            reply: [0, 0, 0, 0, 0, 0, 0, 0],
+        },
+        line,
     }
 }
 
@@ -126,7 +155,7 @@ fn heard(head: Head, frame: Received) -> Head
     ensures { λ r. ⌜ r ≡ act false head (heardAs head frame) ⌝ }
 {
     let state = head.core.nmt;
-    if frame.extended | frame.remote | nmt::is_initialising(state) {
+    if frame.extended | frame.remote | state::is_initialising(state) {
         return head;
     }
     if frame.identifier == nmt::COMMAND {
@@ -147,11 +176,14 @@ pub fn tick(head: Head) -> Head
     ensures { λ r. ⌜ Valid r ⌝ }
 {
     let state = head.core.nmt;
-    if nmt::is_initialising(state) {
+    if state::is_initialising(state) {
         return head;
     }
     let core = head.core;
-    settle::settled(head, time::ticked(core), time::due(core))
+    let settings = core.device.settings.communication;
+    let timers = core.timers;
+    let runs = time::ticked(state::is_operational(state), settings, timers);
+    settle::settled(head, time::timed(core, runs), time::due(settings, timers))
 }
 
 pub fn sample(head: Head, sensor: Sensor) -> Answer
@@ -183,23 +215,16 @@ pub fn slot(head: Head) -> Sent
     ensures { λ r. ⌜ Valid (r .head) ⌝ }
 {
     let core = head.core;
+    let state = core.nmt;
     let line = head.line;
     let kind = waiting::first(line);
-    let next = sending::after(core, kind);
-    let frame = sending::frame(core, kind);
-    let due = settle::emergency_only();
-    let left = settle::settle(
-        waiting::taken(line),
-        settle::mays(core),
-        settle::mays(next),
-        due,
-    );
+    let left = Head {
+        core,
+        line: waiting::taken(line),
+    };
     Sent {
-        waited: sending::waits(core, kind),
-        frame,
-        head: Head {
-            core: next,
-            line: left,
-        },
+        waited: sending::waits(state, kind),
+        frame: sending::frame(core, kind),
+        head: settle::settled(left, sending::after(core, kind), settle::emergency_only()),
     }
 }

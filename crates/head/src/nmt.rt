@@ -1,39 +1,22 @@
-//! NMT: the states, power-up, and the commands that change the state.
+//! NMT: the commands, and the states that they and the boot-up frame enter.
 ghost use mathlib.Core.Path.{_≡_};
-ghost use lib.Dec.{eqb};
-ghost use mathlib.Core.Bool.{false, _||_};
-ghost use Rattle.head.specs.States.{initialisingCode, code, Goal, started as startedHead, atRest, commandOf, resetCommand};
-ghost use Rattle.head.specs.Acts.{entered as enteredCore, entryMoments, resetWith, ever, settledTo, act};
+ghost use mathlib.Core.Bool.{false};
+ghost use Rattle.head.specs.States.{commandOf, resetCommand};
+ghost use Rattle.head.specs.Acts.{booted as bootedCore, entered as enteredCore, entryMoments, resetWith, emergencyOnly, settledTo, act};
 ghost use Rattle.head.specs.Calls.{commanded as commandedBy};
 ghost use Rattle.head.specs.Steps.{entering};
-use crate::Clock;
 use crate::Core;
 use crate::Head;
 use crate::Timers;
 use crate::settle;
 use crate::settle::Flags;
+use crate::state;
+use crate::state::Nmt;
+use crate::time;
 use crate::tpdo;
 use can::Received;
-use dictionary::Device;
-use dictionary::Identity;
-use dictionary::Reading;
+use dictionary::Communication;
 use dictionary::Settings;
-
-// A state, named with its heartbeat code.
-#[repr(C)]
-pub struct Nmt {
-    pub code: u8,
-}
-
-impl Nmt {
-    pub const INITIALISING: Nmt = Nmt { code: 0x00 };
-
-    pub const STOPPED: Nmt = Nmt { code: 0x04 };
-
-    pub const OPERATIONAL: Nmt = Nmt { code: 0x05 };
-
-    pub const PRE_OPERATIONAL: Nmt = Nmt { code: 0x7F };
-}
 
 pub const COMMAND: u32 = 0x000;
 
@@ -48,68 +31,6 @@ const ENTER_PRE_OPERATIONAL: u8 = 0x80;
 const RESET_NODE: u8 = 0x81;
 
 const RESET_COMMUNICATION: u8 = 0x82;
-
-pub fn is_initialising(state: Nmt) -> bool
-    ensures { λ r. ⌜ r ≡ eqb (state .code) initialisingCode ⌝ }
-{
-    same(state, Nmt::INITIALISING)
-}
-
-pub fn is_operational(state: Nmt) -> bool
-    ensures { λ r. ⌜ r ≡ eqb (state .code) (code Goal.operational) ⌝ }
-{
-    same(state, Nmt::OPERATIONAL)
-}
-
-// Pre-operational or Operational.
-pub fn is_live(state: Nmt) -> bool
-    ensures { λ r. ⌜ r ≡ (eqb (state .code) (code Goal.preOperational) || eqb (state .code) (code Goal.operational)) ⌝ }
-{
-    same(state, Nmt::PRE_OPERATIONAL) | same(state, Nmt::OPERATIONAL)
-}
-
-fn same(a: Nmt, b: Nmt) -> bool
-    ensures { λ r. ⌜ r ≡ eqb (a .code) (b .code) ⌝ }
-{
-    a.code == b.code
-}
-
-pub fn started(node: u8, identity: Identity) -> Head
-    ensures { λ r. ⌜ r ≡ startedHead node identity ⌝ }
-{
-    let line = waiting::none();
-    Head {
-        core: Core {
-            device: Device {
-                node,
-                identity,
-                reading: Reading {
-                    good: false,
-                    raw: 0,
-                },
-                errors: 0,
-                settings: Settings::factory(node),
-                saved: Settings::factory(node),
-            },
-            nmt: Nmt::INITIALISING,
-            announced: true,
-            timers: at_rest(),
-            reply: [0, 0, 0, 0, 0, 0, 0, 0],
-        },
-        line,
-    }
-}
-
-pub fn at_rest() -> Timers
-    ensures { λ r. ⌜ r ≡ atRest ⌝ }
-{
-    Timers {
-        inhibit: 0,
-        heartbeat: 0,
-        pdo1: tpdo::uncounted(),
-        pdo2: tpdo::uncounted(),
-    }
-}
 
 pub fn commanded(head: Head, frame: Received) -> Head
     ensures { λ r. ⌜ r ≡ act false head (commandedBy (head .core) (commandOf (head .core .device .node) frame)) ⌝ }
@@ -159,11 +80,12 @@ fn enter(head: Head, state: Nmt) -> Head
     ensures { λ r. ⌜ r ≡ entering head state ⌝ }
 {
     let present = head.core.nmt;
-    if same(present, state) {
+    if state::same(present, state) {
         return head;
     }
     let core = head.core;
-    settle::settled(head, entered(core, state), entry_due(core, state))
+    let settings = core.device.settings.communication;
+    settle::settled(head, entered(core, state), entry_due(settings, state))
 }
 
 fn entered(core: Core, state: Nmt) -> Core
@@ -181,12 +103,12 @@ fn entered(core: Core, state: Nmt) -> Core
     next
 }
 
-fn entry_due(core: Core, state: Nmt) -> Flags
-    ensures { λ r. ⌜ r ≡ entryMoments core state ⌝ }
+fn entry_due(settings: Communication, state: Nmt) -> Flags
+    ensures { λ r. ⌜ r ≡ entryMoments settings state ⌝ }
 {
-    let pdo1 = core.device.settings.communication.pdo1;
-    let pdo2 = core.device.settings.communication.pdo2;
-    let entry = is_operational(state);
+    let pdo1 = settings.pdo1;
+    let pdo2 = settings.pdo2;
+    let entry = state::is_operational(state);
     Flags {
         emergency: true,
         reply: false,
@@ -197,7 +119,7 @@ fn entry_due(core: Core, state: Nmt) -> Flags
 }
 
 fn reset(head: Head, settings: Settings) -> Head
-    ensures { λ r. ⌜ r ≡ settledTo false head (resetWith (head .core) settings) ever ⌝ }
+    ensures { λ r. ⌜ r ≡ settledTo false head (resetWith (head .core) settings) emergencyOnly ⌝ }
 {
     let core = head.core;
     settle::settled(head, reset_to(core, settings), settle::emergency_only())
@@ -209,7 +131,7 @@ fn reset_to(core: Core, settings: Settings) -> Core
     let mut device = core.device;
     device.settings = settings;
     let initialising = Nmt::INITIALISING;
-    let timers = at_rest();
+    let timers = time::at_rest();
     let reply = core.reply;
     Core {
         device,
@@ -218,4 +140,16 @@ fn reset_to(core: Core, settings: Settings) -> Core
         timers,
         reply,
     }
+}
+
+// The slot that sends the boot-up frame enters Pre-operational.
+pub fn booted(core: Core) -> Core
+    ensures { λ r. ⌜ r ≡ bootedCore core ⌝ }
+{
+    let pre_operational = Nmt::PRE_OPERATIONAL;
+    let timers = time::at_rest();
+    let mut next = core;
+    next.nmt = pre_operational;
+    next.timers = timers;
+    next
 }

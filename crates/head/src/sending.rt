@@ -5,15 +5,16 @@ ghost use lib.Dec.{eqb};
 ghost use mathlib.Core.Bool.{not, _||_};
 ghost use mathlib.Core.List.{[], _∷_};
 ghost use Rattle.position.specs.Profile.{ValidProfile};
-ghost use Rattle.head.specs.States.{isInitialising};
+ghost use Rattle.head.specs.States.{initialisingCode};
 ghost use Rattle.head.specs.WaitingLine.{Kind, frame as frameWith, frameOf};
-ghost use Rattle.head.specs.Acts.{booted as bootedCore, acted, frameBy};
+ghost use Rattle.head.specs.Acts.{acted, frameBy};
 ghost use Rattle.head.specs.Calls.{sentBy, frameIn};
 ghost use Rattle.head.specs.Steps.{pdoOf, sendable};
 use crate::Core;
 use crate::emergency;
 use crate::nmt;
-use crate::nmt::Nmt;
+use crate::state;
+use crate::state::Nmt;
 use can::Bytes;
 use can::Frame;
 use waiting::EMERGENCY;
@@ -30,11 +31,10 @@ const HEARTBEAT_FRAME: u32 = 0x700;
 const NO_KIND: u8 = 0;
 
 // Whether there is a frame to send: the boot-up frame, or that of the first kind in the line.
-pub fn waits(core: Core, kind: u8) -> bool
-    ensures { λ r. ⌜ r ≡ (isInitialising core || not (eqb kind 0)) ⌝ }
+pub fn waits(state: Nmt, kind: u8) -> bool
+    ensures { λ r. ⌜ r ≡ (eqb (state .code) initialisingCode || not (eqb kind 0)) ⌝ }
 {
-    let state = core.nmt;
-    nmt::is_initialising(state) | (kind != NO_KIND)
+    state::is_initialising(state) | (kind != NO_KIND)
 }
 
 // The core once the frame is sent.
@@ -43,24 +43,13 @@ pub fn after(core: Core, kind: u8) -> Core
     ensures { λ r. ⌜ r ≡ acted core (sentBy core kind) ⌝ }
 {
     let state = core.nmt;
-    if nmt::is_initialising(state) {
-        return booted(core);
+    if state::is_initialising(state) {
+        return nmt::booted(core);
     }
     if kind == EMERGENCY {
         return emergency::announcing(core);
     }
     core
-}
-
-fn booted(core: Core) -> Core
-    ensures { λ r. ⌜ r ≡ bootedCore core ⌝ }
-{
-    let pre_operational = Nmt::PRE_OPERATIONAL;
-    let timers = nmt::at_rest();
-    let mut next = core;
-    next.nmt = pre_operational;
-    next.timers = timers;
-    next
 }
 
 pub fn frame(core: Core, kind: u8) -> Frame
@@ -69,7 +58,7 @@ pub fn frame(core: Core, kind: u8) -> Frame
 {
     let state = core.nmt;
     let node = core.device.node;
-    if nmt::is_initialising(state) {
+    if state::is_initialising(state) {
         return state_frame(node, state);
     }
     if kind == NO_KIND {

@@ -11,9 +11,9 @@ ghost use Rattle.head.specs.Steps.{Taken, servedWith};
 use crate::Core;
 use crate::Head;
 use crate::Timers;
-use crate::nmt;
 use crate::settle;
 use crate::settle::Flags;
+use crate::state;
 use crate::time;
 use crate::tpdo;
 use can::Bytes;
@@ -39,12 +39,15 @@ pub fn requested(head: Head, frame: Received) -> Head
     let state = head.core.nmt;
     let line = head.line;
     let unanswered = !waiting::waits(line, waiting::SDO_REPLY);
-    if !((frame.length == REQUEST_LENGTH) & nmt::is_live(state) & unanswered) {
+    if !((frame.length == REQUEST_LENGTH) & state::is_live(state) & unanswered) {
         return head;
     }
     let device = head.core.device;
     let bytes = frame.bytes;
-    served(head, sdo::serve(device, nmt::is_operational(state), bytes))
+    served(
+        head,
+        sdo::serve(device, state::is_operational(state), bytes),
+    )
 }
 
 fn served(head: Head, served: Served) -> Head

@@ -3,13 +3,13 @@ ghost use mathlib.Core.Path.{_≡_};
 ghost use mathlib.Core.Bool.{false};
 ghost use Rattle.waiting.specs.Calls.{withdrawsIn, joinsIn};
 ghost use Rattle.head.specs.WaitingLine.{those, flag, mays as maysOf};
-ghost use Rattle.head.specs.Acts.{ever, settledTo};
+ghost use Rattle.head.specs.Acts.{emergencyOnly, settledTo};
 ghost use Rattle.head.specs.Steps.{settledLine};
 use crate::Core;
 use crate::Head;
 use crate::emergency;
 use crate::heartbeat;
-use crate::nmt;
+use crate::state;
 use crate::tpdo;
 use waiting::EMERGENCY;
 use waiting::HEARTBEAT;
@@ -31,7 +31,7 @@ pub struct Flags {
 
 // The emergency's moment is every call that does something.
 pub fn emergency_only() -> Flags
-    ensures { λ r. ⌜ r ≡ ever ⌝ }
+    ensures { λ r. ⌜ r ≡ emergencyOnly ⌝ }
 {
     Flags {
         emergency: true,
@@ -53,22 +53,23 @@ pub fn settled(head: Head, core: Core, due: Flags) -> Head
 }
 
 // The kinds that can wait.
-pub fn mays(core: Core) -> Flags
+fn mays(core: Core) -> Flags
     ensures { λ r. ⌜ r ≡ maysOf core ⌝ }
 {
     let state = core.nmt;
-    let pdo1 = core.device.settings.communication.pdo1;
-    let pdo2 = core.device.settings.communication.pdo2;
+    let settings = core.device.settings.communication;
+    let inhibit = core.timers.inhibit;
+    let good = core.device.reading.good;
     Flags {
-        emergency: emergency::may(core),
-        reply: nmt::is_live(state),
-        heartbeat: heartbeat::may(core),
-        tpdo1: tpdo::may(core, pdo1),
-        tpdo2: tpdo::may(core, pdo2),
+        emergency: emergency::may(state, settings.emergency, inhibit, good, core.announced),
+        reply: state::is_live(state),
+        heartbeat: heartbeat::may(state, settings.heartbeat),
+        tpdo1: tpdo::may(state, settings.pdo1.identifier, good),
+        tpdo2: tpdo::may(state, settings.pdo2.identifier, good),
     }
 }
 
-pub fn settle(line: Line, before: Flags, after: Flags, due: Flags) -> Line
+fn settle(line: Line, before: Flags, after: Flags, due: Flags) -> Line
     ensures { λ r. ⌜ r ≡ settledLine line before after due ⌝ }
 {
     let goes = Flags {

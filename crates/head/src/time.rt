@@ -2,15 +2,15 @@
 ghost use mathlib.Core.Path.{_≡_};
 ghost use Prim.Native.Nat.{_-_};
 ghost use mathlib.Core.Bool.{cond};
+ghost use Rattle.head.specs.States.{atRest};
 ghost use Rattle.head.specs.Timers.{counted as countedOf, completes as completesAt, ifRunning, timersTicked};
 ghost use Rattle.head.specs.Acts.{timing, timeMoments};
 use crate::Clock;
 use crate::Core;
 use crate::Timers;
-use crate::heartbeat;
-use crate::nmt;
 use crate::settle::Flags;
 use crate::tpdo;
+use dictionary::Communication;
 use dictionary::Pdo;
 
 // One more of a period; at its end the count begins again.
@@ -42,24 +42,36 @@ pub fn restarted(restart: bool, count: u32) -> u32
     if restart { 0 } else { count }
 }
 
-pub fn ticked(core: Core) -> Core
-    ensures { λ r. ⌜ r ≡ timing core (timersTicked core) ⌝ }
+pub fn ticked(operational: bool, settings: Communication, timers: Timers) -> Timers
+    ensures { λ r. ⌜ r ≡ timersTicked operational settings timers ⌝ }
 {
-    let pdo1 = core.device.settings.communication.pdo1;
-    let pdo2 = core.device.settings.communication.pdo2;
-    let clock1 = core.timers.pdo1;
-    let clock2 = core.timers.pdo2;
-    let state = core.nmt;
-    let runs = nmt::is_operational(state);
-    let timers = Timers {
-        inhibit: one_less(core.timers.inhibit),
-        heartbeat: counted(
-            core.device.settings.communication.heartbeat,
-            core.timers.heartbeat,
-        ),
-        pdo1: run(runs, pdo1, clock1),
-        pdo2: run(runs, pdo2, clock2),
-    };
+    let pdo1 = settings.pdo1;
+    let pdo2 = settings.pdo2;
+    let clock1 = timers.pdo1;
+    let clock2 = timers.pdo2;
+    Timers {
+        inhibit: one_less(timers.inhibit),
+        heartbeat: counted(settings.heartbeat, timers.heartbeat),
+        pdo1: run(operational, pdo1, clock1),
+        pdo2: run(operational, pdo2, clock2),
+    }
+}
+
+pub fn at_rest() -> Timers
+    ensures { λ r. ⌜ r ≡ atRest ⌝ }
+{
+    Timers {
+        inhibit: 0,
+        heartbeat: 0,
+        pdo1: tpdo::uncounted(),
+        pdo2: tpdo::uncounted(),
+    }
+}
+
+// The core with other timers.
+pub fn timed(core: Core, timers: Timers) -> Core
+    ensures { λ r. ⌜ r ≡ timing core timers ⌝ }
+{
     let mut next = core;
     next.timers = timers;
     next
@@ -83,17 +95,17 @@ fn one_less(ticks: u32) -> u32
     ticks - 1
 }
 
-pub fn due(core: Core) -> Flags
-    ensures { λ r. ⌜ r ≡ timeMoments core ⌝ }
+pub fn due(settings: Communication, timers: Timers) -> Flags
+    ensures { λ r. ⌜ r ≡ timeMoments settings timers ⌝ }
 {
-    let pdo1 = core.device.settings.communication.pdo1;
-    let pdo2 = core.device.settings.communication.pdo2;
-    let clock1 = core.timers.pdo1;
-    let clock2 = core.timers.pdo2;
+    let pdo1 = settings.pdo1;
+    let pdo2 = settings.pdo2;
+    let clock1 = timers.pdo1;
+    let clock2 = timers.pdo2;
     Flags {
         emergency: true,
         reply: false,
-        heartbeat: heartbeat::due(core),
+        heartbeat: completes(settings.heartbeat, timers.heartbeat),
         tpdo1: tpdo::event_due(pdo1, clock1),
         tpdo2: tpdo::event_due(pdo2, clock2),
     }

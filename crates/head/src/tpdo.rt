@@ -1,12 +1,12 @@
 //! The transmit PDOs: their types, what is counted of them, and when one is due.
 ghost use mathlib.Core.Path.{_≡_};
-ghost use Rattle.dictionary.specs.Accepted.{within, on};
-ghost use mathlib.Core.Bool.{_&&_};
-ghost use Rattle.head.specs.States.{Goal, isIn, good, uncounted as uncountedClock};
+ghost use Rattle.dictionary.specs.Accepted.{within};
+ghost use Rattle.head.specs.WaitingLine.{mayShow};
+ghost use Rattle.head.specs.States.{uncounted as uncountedClock};
 ghost use Rattle.head.specs.Timers.{eventDue, syncDue, clockTicked, clockSynced, clockWritten};
 use crate::Clock;
-use crate::Core;
-use crate::nmt;
+use crate::state;
+use crate::state::Nmt;
 use crate::time;
 use dictionary::Pdo;
 use dictionary::accept::is_on;
@@ -20,11 +20,10 @@ pub fn is_synchronous(transmission: u32) -> bool
     (1 <= transmission) & (transmission <= MOST_SYNCS)
 }
 
-pub fn may(core: Core, pdo: Pdo) -> bool
-    ensures { λ r. ⌜ r ≡ (isIn Goal.operational core && on (pdo .identifier) && good core) ⌝ }
+pub fn may(state: Nmt, identifier: u32, good: bool) -> bool
+    ensures { λ r. ⌜ r ≡ mayShow state identifier good ⌝ }
 {
-    let state = core.nmt;
-    nmt::is_operational(state) & is_on(pdo.identifier) & core.device.reading.good
+    state::is_operational(state) & is_on(identifier) & good
 }
 
 pub fn uncounted() -> Clock

@@ -1,49 +1,41 @@
-use Rattle.head.proofs.CallTests.{sends-first}
 use borrow.Author.Needs.{needs}
+use Rattle.head.proofs.CallTests.{sends-first}
 use Rattle.head.proofs.slot.Statement.{statement}
 use Rattle.head.proofs.slot.Tie as tie
 
 first-requires : tie.Need-first-requires
 first-requires c κs = search needs
 
-after-requires : tie.Need-after-requires
-after-requires c κs = search needs
-
-frame-requires : tie.Need-frame-requires
-frame-requires c κs = search needs
-
-emergency-only-requires : tie.Need-emergency-only-requires
-emergency-only-requires c κs = search needs
-
 taken-requires : tie.Need-taken-requires
 taken-requires c κs = search needs
-
-mays-requires : tie.Need-mays-requires
-mays-requires c κs = search needs
-
-mays-requires-2 : tie.Need-mays-requires-2
-mays-requires-2 c κs = search needs
-
-settle-requires : tie.Need-settle-requires
-settle-requires c κs = search needs
 
 waits-requires : tie.Need-waits-requires
 waits-requires c κs = search needs
 
+frame-requires : tie.Need-frame-requires
+frame-requires c κs = search needs
+
+after-requires : tie.Need-after-requires
+after-requires c κs = search needs
+
+emergency-only-requires : tie.Need-emergency-only-requires
+emergency-only-requires c κs = search needs
+
+settled-requires : tie.Need-settled-requires
+settled-requires c κs = search needs
+
 returns : tie.Need-returns
-returns c = let a = c .before .before .before .before .before .before .before .before .before .before .before in rw (c .waits .ensures, c .before .settle .ensures, c .before .before .mays2 .ensures, c .before .before .before .mays .ensures, c .before .before .before .before .taken .ensures, c .before .before .before .before .before .emergency-only .ensures, c .before .before .before .before .before .before .frame .ensures, c .before .before .before .before .before .before .before .after .ensures, c .before .before .before .before .before .before .before .before .first .ensures) (sends-first (a .args .head) (a .pre))
+returns c = let a = c .before .before .before .before .before .before .before .before .before .before in rw (c .settled .ensures, c .before .emergency-only .ensures, c .before .before .after .ensures, c .before .before .before .frame .ensures, c .before .before .before .before .waits .ensures, c .before .before .before .before .before .taken .ensures, c .before .before .before .before .before .before .first .ensures) (sends-first (a .args .head) (a .pre))
 
 pub slot-spec : {M : Type 1} → statement M
 slot-spec =
     tie.close
     (tie.spec
     first-requires
-    after-requires
-    frame-requires
-    emergency-only-requires
     taken-requires
-    mays-requires
-    mays-requires-2
-    settle-requires
     waits-requires
+    frame-requires
+    after-requires
+    emergency-only-requires
+    settled-requires
     returns)

@@ -9,7 +9,7 @@ is-on-requires : tie.Need-is-on-requires
 is-on-requires c κs = search needs
 
 returns : tie.Need-returns
-returns c = rw (c .before .before .is-on .ensures, c .before .before .before .is-live .ensures)
+returns c = rw (c .is-on .ensures, c .before .is-live .ensures)
 
 pub may-spec : {M : Type 1} → statement M
 may-spec = tie.close (tie.spec is-live-requires is-on-requires returns)

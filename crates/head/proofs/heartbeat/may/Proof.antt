@@ -6,7 +6,7 @@ is-initialising-requires : tie.Need-is-initialising-requires
 is-initialising-requires c κs = search needs
 
 returns : tie.Need-returns
-returns c = rw (c .before .is-initialising .ensures)
+returns c = rw (c .is-initialising .ensures)
 
 pub may-spec : {M : Type 1} → statement M
 may-spec = tie.close (tie.spec is-initialising-requires returns)

@@ -18,7 +18,7 @@ settled-requires : tie.Need-settled-requires
 settled-requires c κs = search needs
 
 returns-2 : tie.Need-returns-2
-returns-2 c = rw (c .settled .ensures, c .before .entry-due .ensures, c .before .before .entered .ensures, ← c .before .before .before .before .before .same .ensures, c .before .before .before .before .if1 .left)
+returns-2 c = rw (c .settled .ensures, c .before .entry-due .ensures, c .before .before .entered .ensures, ← c .before .before .before .before .before .before .same .ensures, c .before .before .before .before .before .if1 .left)
 
 pub enter-spec : {M : Type 1} → statement M
 enter-spec =

@@ -1,3 +1,4 @@
+use Rattle.head.specs.Acts.{settledTo}
 use borrow.Author.Needs.{needs}
 use Rattle.head.proofs.settle.settled.Statement.{statement}
 use Rattle.head.proofs.settle.settled.Tie as tie
@@ -12,6 +13,7 @@ settle-requires : tie.Need-settle-requires
 settle-requires c κs = search needs
 
 returns : tie.Need-returns
+unfolding settledTo
 returns c = rw (c .settle .ensures, c .before .mays2 .ensures, c .before .before .mays .ensures)
 
 pub settled-spec : {M : Type 1} → statement M

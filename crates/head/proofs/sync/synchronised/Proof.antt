@@ -13,6 +13,9 @@ returns c = let a = c .before .before .before .args in no-sync (a .head) (a .len
 synced-requires : tie.Need-synced-requires
 synced-requires c κs = search needs
 
+timed-requires : tie.Need-timed-requires
+timed-requires c κs = search needs
+
 due-requires : tie.Need-due-requires
 due-requires c κs = search needs
 
@@ -20,7 +23,7 @@ settled-requires : tie.Need-settled-requires
 settled-requires c κs = search needs
 
 returns-2 : tie.Need-returns-2
-returns-2 c = let a = c .before .before .before .before .before .before .before .args in rw (c .settled .ensures, c .before .due .ensures, c .before .before .synced .ensures) (syncs (a .head) (a .length) (rw (← c .before .before .before .before .before .is-operational .ensures) (not-false _ (c .before .before .before .before .if1 .left))))
+returns-2 c = let a = c .before .before .before .before .before .before .before .before .before .before .args in rw (c .settled .ensures, c .before .due .ensures, c .before .before .timed .ensures, c .before .before .before .synced .ensures) (syncs (a .head) (a .length) (rw (← c .before .before .before .before .before .before .before .before .is-operational .ensures) (not-false _ (c .before .before .before .before .before .before .before .if1 .left))))
 
 pub synchronised-spec : {M : Type 1} → statement M
 synchronised-spec =
@@ -29,6 +32,7 @@ synchronised-spec =
     is-operational-requires
     returns
     synced-requires
+    timed-requires
     due-requires
     settled-requires
     returns-2)

@@ -2,8 +2,8 @@ use borrow.Author.Needs.{needs}
 use Rattle.head.proofs.time.due.Statement.{statement}
 use Rattle.head.proofs.time.due.Tie as tie
 
-due-requires : tie.Need-due-requires
-due-requires c κs = search needs
+completes-requires : tie.Need-completes-requires
+completes-requires c κs = search needs
 
 event-due-requires : tie.Need-event-due-requires
 event-due-requires c κs = search needs
@@ -12,7 +12,7 @@ event-due-requires-2 : tie.Need-event-due-requires-2
 event-due-requires-2 c κs = search needs
 
 returns : tie.Need-returns
-returns c = rw (c .event-due2 .ensures, c .before .event-due .ensures, c .before .before .due .ensures)
+returns c = rw (c .event-due2 .ensures, c .before .event-due .ensures, c .before .before .completes .ensures)
 
 pub due-spec : {M : Type 1} → statement M
-due-spec = tie.close (tie.spec due-requires event-due-requires event-due-requires-2 returns)
+due-spec = tie.close (tie.spec completes-requires event-due-requires event-due-requires-2 returns)

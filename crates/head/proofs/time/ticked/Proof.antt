@@ -2,9 +2,6 @@ use borrow.Author.Needs.{needs}
 use Rattle.head.proofs.time.ticked.Statement.{statement}
 use Rattle.head.proofs.time.ticked.Tie as tie
 
-is-operational-requires : tie.Need-is-operational-requires
-is-operational-requires c κs = search needs
-
 one-less-requires : tie.Need-one-less-requires
 one-less-requires c κs = search needs
 
@@ -18,15 +15,8 @@ run-requires-2 : tie.Need-run-requires-2
 run-requires-2 c κs = search needs
 
 returns : tie.Need-returns
-returns c = rw (c .run2 .ensures, c .before .run .ensures, c .before .before .counted .ensures, c .before .before .before .one-less .ensures, c .before .before .before .before .is-operational .ensures)
+returns c = rw (c .run2 .ensures, c .before .run .ensures, c .before .before .counted .ensures, c .before .before .before .one-less .ensures)
 
 pub ticked-spec : {M : Type 1} → statement M
 ticked-spec =
-    tie.close
-    (tie.spec
-    is-operational-requires
-    one-less-requires
-    counted-requires
-    run-requires
-    run-requires-2
-    returns)
+    tie.close (tie.spec one-less-requires counted-requires run-requires run-requires-2 returns)

@@ -9,7 +9,7 @@ is-on-requires : tie.Need-is-on-requires
 is-on-requires c κs = search needs
 
 returns : tie.Need-returns
-returns c = rw (c .before .is-on .ensures, c .before .before .is-operational .ensures)
+returns c = rw (c .is-on .ensures, c .before .is-operational .ensures)
 
 pub may-spec : {M : Type 1} → statement M
 may-spec = tie.close (tie.spec is-operational-requires is-on-requires returns)

@@ -1,6 +1,6 @@
 use borrow.Author.Needs.{needs}
-use Rattle.head.proofs.nmt.is_live.Statement.{statement}
-use Rattle.head.proofs.nmt.is_live.Tie as tie
+use Rattle.head.proofs.state.is_live.Statement.{statement}
+use Rattle.head.proofs.state.is_live.Tie as tie
 
 same-requires : tie.Need-same-requires
 same-requires c κs = search needs

@@ -1,6 +1,6 @@
 use borrow.Author.Needs.{needs}
-use Rattle.head.proofs.nmt.started.Statement.{statement}
-use Rattle.head.proofs.nmt.started.Tie as tie
+use Rattle.head.proofs.started.Statement.{statement}
+use Rattle.head.proofs.started.Tie as tie
 
 none-requires : tie.Need-none-requires
 none-requires c κs = search needs

@@ -1,6 +1,6 @@
 use borrow.Author.Needs.{needs}
-use Rattle.head.proofs.sending.booted.Statement.{statement}
-use Rattle.head.proofs.sending.booted.Tie as tie
+use Rattle.head.proofs.nmt.booted.Statement.{statement}
+use Rattle.head.proofs.nmt.booted.Tie as tie
 
 at-rest-requires : tie.Need-at-rest-requires
 at-rest-requires c κs = search needs

@@ -1,6 +1,6 @@
 use borrow.Author.Needs.{needs}
-use Rattle.head.proofs.nmt.at_rest.Statement.{statement}
-use Rattle.head.proofs.nmt.at_rest.Tie as tie
+use Rattle.head.proofs.time.at_rest.Statement.{statement}
+use Rattle.head.proofs.time.at_rest.Tie as tie
 
 uncounted-requires : tie.Need-uncounted-requires
 uncounted-requires c κs = search needs
