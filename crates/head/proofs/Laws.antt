@@ -1,10 +1,11 @@
 -- `Laws` of specs/Laws.antt.
 use Prim.Native.Nat.{ℕ, _≤_}
 use native.Mathlib.Omega.{arith}
-use lib.Dec.{leb}
+use lib.Dec.{leb, ltb}
 use mathlib.Core.Path.{_≡_, refl, sym, ap, _∙_}
+use mathlib.Core.Logic.{_↔_}
 use mathlib.Core.Bool.{Bool, true, false}
-use borrow.Author.Tests.{leb-true}
+use borrow.Author.Tests.{leb-true, ltb-true, ltb-false, lt-ltb, le-ltb}
 use Rattle.cases.proofs.Cases.{by, both}
 use Rattle.can.specs.Frame.{badIdentifier, badLength}
 use Rattle.dictionary.specs.declared.Identity.{Identity}
@@ -14,7 +15,7 @@ use Rattle.head.specs.declared.Head.{Head}
 use Rattle.head.specs.declared.Answer.{Answer}
 use Rattle.head.specs.WaitingLine.{emergency, may}
 use Rattle.head.specs.Acts.{settledTo, act}
-use Rattle.head.specs.Calls.{receive, tick, badSample, noIdentity, poweredUp}
+use Rattle.head.specs.Calls.{receive, tick, noIdentity, poweredUp, received, ticked, sampled, slotted}
 use Rattle.head.specs.Valid.{waits, Valid}
 use Rattle.head.specs.Laws.{OneOutcome, Laws}
 use Rattle.head.proofs.Nothing.{step-nothing}
@@ -40,8 +41,11 @@ emergency-exactly h v = same (waits h emergency) (may (h .core) emergency) (v .o
     same false true f g = g refl
     same false false f g = refl
 
-one-outcome : {A : Type 0} (due : A) → OneOutcome due
-one-outcome due x y p q = p ∙ sym q
+one-outcome : {A : Type 0} (due : A) (Left : A → Type 0) → OneOutcome (λ r. (r ≡ due) × Left r)
+one-outcome due Left x y p q = p .0 ∙ sym (q .0)
+
+↔-then : {A B C : Type 0} → A ↔ B → B ↔ C → A ↔ C
+↔-then f g = (λ a. g .0 (f .0 a), λ c. f .1 (g .1 c))
 
 pub laws : Laws
 unfolding act settledTo
@@ -53,8 +57,9 @@ laws =
       gives-1 = λ h f. first-passes 1 2 0 refl refl refl (badIdentifier f) (badLength f);
       gives-2 = λ h f. second-passes 1 2 0 refl refl refl (badIdentifier f) (badLength f);
       takes-frame = λ h f. neither-passes 1 2 0 refl refl refl (badIdentifier f) (badLength f);
-      gives-3 = λ h s. passes 3 0 refl (badSample s);
-      takes-sample = λ h s. fails 3 0 refl (badSample s);
+      gives-3 = λ h r. ↔-then (passes 3 0 refl (ltb 1048575 r)) (ltb-true 1048575 r, lt-ltb 1048575 r);
+      takes-sample = λ h r. ↔-then (fails 3 0 refl (ltb 1048575 r)) (ltb-false 1048575 r, le-ltb 1048575 r);
+      takes-missing = λ h. refl;
       gives-4 = λ n i. rw (power-refusal n i) (fails 0 4 refl (within 1 127 n));
       takes-node = λ n i. rw (power-refusal n i) (passes 0 4 refl (within 1 127 n));
       frame-refused = frame-refused;
@@ -69,9 +74,9 @@ laws =
       sends-first = λ h v i k e. answers h (sends-first h v i k e);
       emergency-exactly = emergency-exactly;
       waits-rightly = λ h v. v .only;
-      one-power-up = λ n i. one-outcome _;
-      one-receive = λ h f. one-outcome _;
-      one-tick = λ h. one-outcome _;
-      one-sample = λ h s. one-outcome _;
-      one-slot = λ h. one-outcome _;
+      one-power-up = λ n i. one-outcome (poweredUp n i) (λ r. Valid (r .head));
+      one-receive = λ h f. one-outcome (received h f) (λ r. Valid (r .head));
+      one-tick = λ h. one-outcome (ticked h) Valid;
+      one-sample = λ h s. one-outcome (sampled h s) (λ r. Valid (r .head));
+      one-slot = λ h. one-outcome (slotted h) (λ r. Valid (r .head));
     }

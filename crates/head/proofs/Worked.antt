@@ -5,7 +5,7 @@ use Rattle.dictionary.specs.Reads.{shownAt}
 use Rattle.dictionary.specs.Writes.{written}
 use Rattle.sdo.specs.Service.{due}
 use Rattle.head.specs.Acts.{settledTo, act}
-use Rattle.head.specs.Worked.{Worked}
+use Rattle.head.specs.Worked.{Worked, Printed}
 
 pub worked : Worked
 unfolding entries table lookup shownAt written due act settledTo
@@ -23,5 +23,8 @@ worked =
       p10 = (refl, refl);
       p11 = refl;
       p12 = (refl, refl);
-      prints = refl;
     }
+
+pub printed : Printed
+unfolding entries table lookup shownAt written due act settledTo
+printed = refl

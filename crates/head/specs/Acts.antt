@@ -1,8 +1,9 @@
--- What a call can do to a head: the acts, what each does to all but the line, whose moment it is, and how the line then settles.
+-- What a call can do to a head, of 01's chapters "States" and "The waiting line": the acts, what each does to all but the line,
+-- whose moment it is, and how the line then settles.
 use Prim.Native.Nat.{ℕ, suc}
 use lib.Dec.{eqb, ltb}
-use mathlib.Core.Bool.{Bool, true, false, not, _&&_, _||_, cond}
-use mathlib.Core.List.{List, [], _∷_}
+use mathlib.Core.Bool.{Bool, true, false, not, _&&_, cond}
+use mathlib.Core.List.{List}
 use mathlib.Core.Option.{Option, none, some}
 use Rattle.can.specs.declared.Frame.{Frame}
 use Rattle.dictionary.specs.declared.Communication.{Communication}
@@ -14,14 +15,14 @@ use Rattle.sdo.specs.declared.reply.Effect.{Effect}
 use Rattle.sdo.specs.declared.reply.Effect.the-variants.{Nothing, Reply, Write}
 use Rattle.sdo.specs.declared.reply.Served.{Served}
 use Rattle.sdo.specs.Reply.{carriedOut}
-use Rattle.waiting.specs.Calls.{afterIn, withdrawsIn, joinsIn}
+use Rattle.waiting.specs.Calls.{afterIn}
 use Rattle.head.specs.declared.state.Nmt.{Nmt}
 use Rattle.head.specs.declared.Timers.{Timers}
 use Rattle.head.specs.declared.Core.{Core}
 use Rattle.head.specs.declared.Head.{Head}
 use Rattle.head.specs.declared.settle.Flags.{Flags}
 use Rattle.head.specs.States.{Goal, operational, preOperational, code, state, initialising, isIn, Reset, restored, communication, good, uncounted, atRest, missingReading}
-use Rattle.head.specs.WaitingLine.{Kind, emergency, sdoReply, heartbeat, tpdo, those, flag, flags, may, mays, bootUpFrame, frameOf}
+use Rattle.head.specs.WaitingLine.{Kind, emergency, sdoReply, heartbeat, tpdo, those, flag, flags, may, bootUpFrame, frameOf}
 use Rattle.head.specs.Timers.{inhibitTicks, completes, synchronous, eventDue, syncDue, timersTicked, timersSynced, timersWritten}
 
 pub data Act : Type 0 where
@@ -44,7 +45,7 @@ pub data Act : Type 0 where
   -- a service request gets its reply, and has its effect
   serve : Served → Act
 
--- the core with another state, and with other timers
+-- the core with these, and the reply last made; a reply's bytes stay behind when it has left, and no frame shows them
 abbrev pub core : Core → Device → Nmt → Bool → Timers → Core
 core c d s a t = record { device = d; nmt = s; announced = a; timers = t; reply = c .reply }
 
@@ -54,7 +55,7 @@ sensed d r e = record { node = d .node; identity = d .identity; reading = r; err
 abbrev pub resetTo : Device → Settings → Device
 resetTo d s = record { node = d .node; identity = d .identity; reading = d .reading; errors = d .errors; settings = s; saved = d .saved }
 
--- The PDOs are counted from entry.
+-- The PDOs are counted from entry. (They count in Operational only: in another state no frame shows their counts.)
 abbrev pub uncountedPdos : Timers → Timers
 uncountedPdos t = record { inhibit = t .inhibit; heartbeat = t .heartbeat; pdo1 = uncounted; pdo2 = uncounted }
 
@@ -68,7 +69,7 @@ entered c s = core c (c .device) s (c .announced) (uncountedPdos (c .timers))
 abbrev pub resetWith : Core → Settings → Core
 resetWith c s = core c (resetTo (c .device) s) initialising true atRest
 
--- The slot that sends it enters Pre-operational; the heartbeat is counted from there.
+-- The slot that sends the boot-up frame enters Pre-operational. The heartbeat is counted from there.
 abbrev pub booted : Core → Core
 booted c = core c (c .device) (state preOperational) (c .announced) atRest
 
@@ -124,7 +125,7 @@ acted c time = timing c (timersTicked (isIn operational c) (communication c) (c 
 acted c sync = timing c (timersSynced (communication c) (c .timers))
 acted c (serve s) = serving c s
 
--- The moments at which a kind joins, if it may: emergency, SDO reply, heartbeat, TPDO1, TPDO2.
+-- The moments at which a kind joins, if it may, in the order emergency, SDO reply, heartbeat, TPDO1, TPDO2.
 -- The emergency's is any call that does something, so that it waits exactly while its condition holds.
 abbrev pub emergencyOnly : Flags
 emergencyOnly = flags true false false false false
@@ -136,12 +137,15 @@ entryDue entered p = eqb (entered .code) (code operational) && not (synchronous 
 abbrev pub entryMoments : Communication → Nmt → Flags
 entryMoments s entered = flags true false false (entryDue entered (s .pdo1)) (entryDue entered (s .pdo2))
 
+-- the heartbeat joins every H ticks; types 254 and 255: every E ticks
 abbrev pub timeMoments : Communication → Timers → Flags
 timeMoments s t = flags true false (completes (s .heartbeat) (t .heartbeat)) (eventDue (s .pdo1) (t .pdo1)) (eventDue (s .pdo2) (t .pdo2))
 
+-- Types 1..240: at each n-th SYNC
 abbrev pub syncMoments : Communication → Timers → Flags
 syncMoments s t = flags true false false (syncDue (s .pdo1) (t .pdo1)) (syncDue (s .pdo2) (t .pdo2))
 
+-- What is due is the reply that joins; a withdrawal may still take it.
 abbrev pub requestMoments : Flags
 requestMoments = flags true true false false false
 
@@ -158,14 +162,15 @@ moments c time = timeMoments (communication c) (c .timers)
 moments c sync = syncMoments (communication c) (c .timers)
 moments c (serve s) = requestMoments
 
--- A kind goes when its condition ends; it joins when it is its moment and it may.
+-- A kind goes when its condition ends; it joins when it is its moment and it may. A due moment with a missing reading is passed over.
 abbrev pub goes : Core → Core → List ℕ
 goes before after = those (λ k. may before k && not (may after k))
 
 abbrev pub comes : Flags → Core → List ℕ
 comes due after = those (λ k. flag due k && may after k)
 
--- a head with another core, whose line has settled; `slot`: its first was sent
+-- A head with another core, whose line has settled; `slot`: its first was sent. How kinds join and are withdrawn is `afterIn` of crate waiting:
+-- a kind joins at the end, one that waits already keeps its place, several join in the order just given.
 unfoldable pub settledTo : Bool → Head → Core → Flags → Head
 settledTo slot h after due = record { core = after; line = afterIn slot (goes (h .core) after) (comes due after) (h .line) }
 

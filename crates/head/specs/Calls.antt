@@ -1,8 +1,9 @@
--- The calls, what each means to a head in its state, and what it answers: 01's chapters "The head and its neighbours" and "Refusal numbers".
+-- The calls, what each means to a head in its state, and what it answers: 01's chapters "The head and its neighbours" and "Refusal numbers",
+-- with the guards that "States", "The waiting line" (SYNC) and "Service requests" set.
 use Prim.Native.Nat.{ℕ, _+_}
 use lib.Dec.{eqb, leb, ltb}
 use mathlib.Core.Bool.{Bool, true, false, not, _&&_, _||_, cond}
-use mathlib.Core.List.{List, [], _∷_}
+use mathlib.Core.List.{[], _∷_}
 use mathlib.Core.Option.{Option, none, some}
 use Rattle.cases.specs.Cases.{firstOf}
 use Rattle.can.specs.declared.Frame.{Frame}
@@ -21,11 +22,11 @@ use Rattle.head.specs.declared.Answer.{Answer}
 use Rattle.head.specs.declared.Sent.{Sent}
 use Rattle.head.specs.declared.Sensor.{Sensor}
 use Rattle.head.specs.declared.Sensor.the-variants.{Missing, Raw}
-use Rattle.head.specs.States.{Goal, operational, code, isIn, isInitialising, isLive, node, started, Command, noCommand, toEnter, toReset, commandOf}
+use Rattle.head.specs.States.{operational, isIn, isInitialising, isLive, node, started, Command, noCommand, toEnter, toReset, commandOf}
 use Rattle.head.specs.WaitingLine.{kindOf, frame}
 use Rattle.head.specs.Acts.{Act, nothing, enter, reset, boot, idle, send, take, lose, time, sync, serve, act, frameBy}
 
--- Calls: frame received, tick (1 ms), sample (a raw position or "missing"), slot.
+-- Calls, after power-up: frame received, tick (1 ms), sample (a raw position or "missing"), slot.
 pub data Call : Type 0 where
   receive : Received → Call
   tick : Call
@@ -82,6 +83,7 @@ abbrev pub badSample : Sensor → Bool
 badSample Missing = false
 badSample (Raw r) = ltb 1048575 r
 
+-- In Initialising .. samples are taken, as in every state.
 abbrev pub sampledAs : Sensor → Act
 sampledAs Missing = lose
 sampledAs (Raw r) = cond (badSample (Raw r)) nothing (take r)

@@ -1,5 +1,5 @@
 -- What holds of every valid head, and so of every head that comes from power-up and is altered by calls only: `Laws`, in the words and the order of 01.
-use Prim.Native.Nat.{ℕ, _+_, _<_}
+use Prim.Native.Nat.{ℕ, _+_, _<_, _≤_}
 use mathlib.Core.Path.{_≡_}
 use mathlib.Core.Logic.{_↔_}
 use mathlib.Core.Bool.{true, false}
@@ -14,10 +14,12 @@ use Rattle.waiting.specs.Line.{places, first, Kinds}
 use Rattle.waiting.specs.Places.{waiting}
 use Rattle.head.specs.declared.Head.{Head}
 use Rattle.head.specs.declared.Sensor.{Sensor}
+use Rattle.head.specs.declared.Sensor.the-variants.{Missing, Raw}
 use Rattle.head.specs.States.{Goal, operational, preOperational, state, isIn, isInitialising, isLive, node, started, noCommand, toEnter, command, byteOf}
 use Rattle.head.specs.WaitingLine.{Kind, emergency, sdoReply, number, may, bootUpFrame, frameOf}
-use Rattle.head.specs.Calls.{Call, step, badSample, noIdentity, poweredUp, received, ticked, sampled, slotted}
+use Rattle.head.specs.Calls.{Call, step, noIdentity, poweredUp, received, ticked, sampled, slotted}
 use Rattle.head.specs.Valid.{waits, Valid}
+use Rattle.head.specs.Promised.{PowersUp, Receives, Ticks, Samples, Slots}
 
 -- Why a frame is not meant for the head.
 pub data NotMeant (h : Head) (f : Received) : Type 0 where
@@ -46,9 +48,9 @@ pub data NotMeant (h : Head) (f : Received) : Type 0 where
   -- 4 abort (no effect, no reply)
   client-abort : f .identifier ≡ 0x600 + node (h .core) → aborting (f .bytes) ≡ true → NotMeant h f
 
--- A call promises that its outcome is `due`. No second outcome satisfies that.
-abbrev pub OneOutcome : {A : Type 0} → A → Type 0
-OneOutcome {A} due = (x y : A) → x ≡ due → y ≡ due → x ≡ y
+-- No second outcome satisfies a promise.
+abbrev pub OneOutcome : {A : Type 0} → (A → Type 0) → Type 0
+OneOutcome {A} Promise = (x y : A) → Promise x → Promise y → x ≡ y
 
 pub record Laws : Type 0 where
   -- Every head comes from power-up and is altered by calls only; .. power-up and each call are proved to leave one.
@@ -63,8 +65,9 @@ pub record Laws : Type 0 where
   -- else 0, for no refusal
   pub takes-frame : (h : Head) (f : Received) → (received h f .refusal ≡ 0) ↔ ((badIdentifier f ≡ false) × (badLength f ≡ false))
   -- 3: raw sample above 1,048,575
-  pub gives-3 : (h : Head) (s : Sensor) → (sampled h s .refusal ≡ 3) ↔ (badSample s ≡ true)
-  pub takes-sample : (h : Head) (s : Sensor) → (sampled h s .refusal ≡ 0) ↔ (badSample s ≡ false)
+  pub gives-3 : (h : Head) (r : ℕ) → (sampled h (Raw r) .refusal ≡ 3) ↔ (1048575 < r)
+  pub takes-sample : (h : Head) (r : ℕ) → (sampled h (Raw r) .refusal ≡ 0) ↔ (r ≤ 1048575)
+  pub takes-missing : (h : Head) → sampled h Missing .refusal ≡ 0
   -- 4: node number at power-up not 1..127
   pub gives-4 : (n : ℕ) (i : Identity) → (poweredUp n i .refusal ≡ 4) ↔ (within 1 127 n ≡ false)
   pub takes-node : (n : ℕ) (i : Identity) → (poweredUp n i .refusal ≡ 0) ↔ (within 1 127 n ≡ true)
@@ -89,11 +92,11 @@ pub record Laws : Type 0 where
       → (slotted h .waited ≡ true) × (slotted h .frame ≡ frameOf (h .core) k)
   -- Emergency: waits exactly while the state is Pre-operational or Operational, bit 31 of 1014h is 0, no inhibit time runs, and the present reading .. differs
   pub emergency-exactly : (h : Head) → Valid h → waits h emergency ≡ may (h .core) emergency
-  -- Only under its condition does any kind wait: the heartbeat if H > 0, a TPDO only when Operational, switched on and the reading is good.
+  -- TPDO: .. Only when Operational, switched on (bit 31 of sub 1 is 0) and the reading is good may it join. And so each kind under its condition.
   pub waits-rightly : (h : Head) → Valid h → (k : Kind) → waits h k ≡ true → may (h .core) k ≡ true
   -- For every input, refused ones too, a public call's promise determines the answer and the head afterwards.
-  pub one-power-up : (n : ℕ) (i : Identity) → OneOutcome (poweredUp n i)
-  pub one-receive : (h : Head) (f : Received) → OneOutcome (received h f)
-  pub one-tick : (h : Head) → OneOutcome (ticked h)
-  pub one-sample : (h : Head) (s : Sensor) → OneOutcome (sampled h s)
-  pub one-slot : (h : Head) → OneOutcome (slotted h)
+  pub one-power-up : (n : ℕ) (i : Identity) → OneOutcome (PowersUp n i)
+  pub one-receive : (h : Head) (f : Received) → OneOutcome (Receives h f)
+  pub one-tick : (h : Head) → OneOutcome (Ticks h)
+  pub one-sample : (h : Head) (s : Sensor) → OneOutcome (Samples h s)
+  pub one-slot : (h : Head) → OneOutcome (Slots h)

@@ -5,5 +5,6 @@ pub mod Acts
 pub mod Calls
 pub mod Steps
 pub mod Valid
+pub mod Promised
 pub mod Laws
 pub mod Worked

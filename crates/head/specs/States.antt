@@ -1,8 +1,8 @@
 -- 01's chapter "States": the NMT states, power-up, the commands, and what a reset restores.
-use Prim.Native.Nat.{ℕ, _+_}
+use Prim.Native.Nat.{ℕ}
 use lib.Dec.{eqb}
-use mathlib.Core.Bool.{Bool, true, false, not, _&&_, _||_, cond}
-use mathlib.Core.List.{List, [], _∷_}
+use mathlib.Core.Bool.{Bool, true, false, _&&_, _||_, cond}
+use mathlib.Core.List.{[], _∷_}
 use lib.ListN.{getD}
 use Rattle.cases.specs.Cases.{firstOf}
 use Rattle.can.specs.declared.Received.{Received}
@@ -76,10 +76,10 @@ abbrev pub clock : Timers → Which → Clock
 clock t one = t .pdo1
 clock t two = t .pdo2
 
--- no inhibit time runs, and nothing is counted
 abbrev pub uncounted : Clock
 uncounted = record { ticks = 0; syncs = 0 }
 
+-- no inhibit time runs, and nothing is counted
 abbrev pub atRest : Timers
 atRest = record { inhibit = 0; heartbeat = 0; pdo1 = uncounted; pdo2 = uncounted }
 

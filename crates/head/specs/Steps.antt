@@ -2,13 +2,13 @@
 use Prim.Native.Nat.{ℕ}
 use lib.Dec.{eqb}
 use mathlib.Core.Path.{_≡_}
-use mathlib.Core.Bool.{Bool, false, not, _&&_, cond}
+use mathlib.Core.Bool.{false, not, _&&_, cond}
 use mathlib.Core.List.{List}
 use Rattle.can.specs.declared.Frame.{Frame}
 use Rattle.dictionary.specs.declared.Device.{Device}
 use Rattle.dictionary.specs.Writes.{Fits}
 use Rattle.sdo.specs.declared.reply.Effect.{Effect}
-use Rattle.sdo.specs.declared.reply.Effect.the-variants.{Nothing, Reply, Write}
+use Rattle.sdo.specs.declared.reply.Effect.the-variants.{Write}
 use Rattle.sdo.specs.declared.reply.Served.{Served}
 use Rattle.waiting.specs.Line as line
 use Rattle.waiting.specs.Calls.{withdrawsIn, joinsIn}

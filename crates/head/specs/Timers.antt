@@ -12,7 +12,7 @@ use Rattle.head.specs.declared.Timers.{Timers}
 abbrev pub inhibitTicks : ℕ → ℕ
 inhibitTicks v = cond (eqb v 0) 0 ((v + 9) / 10 + 1)
 
--- every n: one more is counted, and at n it begins again; with n = 0 nothing is
+-- every n ticks, at each n-th SYNC: one more is counted, and at n it begins again; with n = 0 nothing is
 abbrev pub counted : ℕ → ℕ → ℕ
 counted n count = cond (ltb (suc count) n) (suc count) 0
 
@@ -32,6 +32,7 @@ eventDue p k = not (synchronous p) && completes (p .event) (k .ticks)
 abbrev pub syncDue : Pdo → Clock → Bool
 syncDue p k = synchronous p && completes (p .transmission) (k .syncs)
 
+-- (counted for every PDO; only of types 254 and 255 is it a moment, and switching on begins anew)
 abbrev pub clockTicked : Pdo → Clock → Clock
 clockTicked p k = record { ticks = counted (p .event) (k .ticks); syncs = k .syncs }
 

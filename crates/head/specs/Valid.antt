@@ -1,4 +1,5 @@
--- A valid head: what power-up and the calls leave.
+-- A valid head. "Every head comes from power-up and is altered by calls only; the promises are for such heads, and power-up and each call
+-- are proved to leave one": 01's chapter "The head and its neighbours".
 use Prim.Native.Nat.{ℕ, _<_, _≤_}
 use mathlib.Core.Path.{_≡_}
 use mathlib.Core.Bool.{Bool, true, _||_}
@@ -14,6 +15,7 @@ use Rattle.head.specs.declared.Timers.{Timers}
 use Rattle.head.specs.declared.Core.{Core}
 use Rattle.head.specs.declared.Head.{Head}
 use Rattle.head.specs.States.{operational, stopped, preOperational, isIn, isInitialising, communication, Which, pdo, clock, atRest}
+use Rattle.head.specs.Timers.{inhibitTicks}
 use Rattle.head.specs.WaitingLine.{Kind, emergency, number, may}
 
 -- whether a kind waits
@@ -34,8 +36,8 @@ pub record ValidClock (p : Pdo) (k : Clock) : Type 0 where
   pub syncs : on (p .identifier) ≡ true → Below (p .transmission) (k .syncs)
 
 pub record ValidTimers (s : Communication) (t : Timers) : Type 0 where
-  -- 65,535 units of 100 µs
-  pub inhibit : t .inhibit ≤ 6555
+  -- at most that of 65,535 units
+  pub inhibit : t .inhibit ≤ inhibitTicks 0xFFFF
   pub heartbeat : Below (s .heartbeat) (t .heartbeat)
   pub clocks : (w : Which) → ValidClock (pdo s w) (clock t w)
 

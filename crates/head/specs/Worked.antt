@@ -8,22 +8,15 @@ use Rattle.sdo.specs.Worked.{bytes}
 use Rattle.head.specs.declared.Head.{Head}
 use Rattle.head.specs.declared.Sensor.the-variants.{Missing, Raw}
 use Rattle.head.specs.WaitingLine.{frame}
-use Rattle.head.specs.Calls.{Call, receive, tick, sample, slot, poweredUp, received, ticked, sampled, slotted, noFrame}
+use Rattle.head.specs.Calls.{Call, receive, tick, sample, slot, step, poweredUp, slotted, noFrame}
 
 -- node 1, identity 1, 2, 3, 4
 abbrev pub node1 : Head
 node1 = poweredUp 1 (record { vendor = 1; product = 2; revision = 3; serial = 4 }) .head
 
--- the head that a call leaves
-abbrev pub called : Head → Call → Head
-called h (receive f) = received h f .head
-called h tick = ticked h
-called h (sample s) = sampled h s .head
-called h slot = slotted h .head
-
 abbrev pub after : Head → List Call → Head
 after h [] = h
-after h (c ∷ cs) = after (called h c) cs
+after h (c ∷ cs) = after (step h c) cs
 
 -- the eight bytes as a frame 601h
 abbrev pub request : List ℕ → Call
@@ -71,10 +64,10 @@ preset = writes (bytes 0x23 0x03 0x60 0x00 0x28 0 0 0)
 -- what the slots among the calls answer
 abbrev pub answers : Head → List Call → List (Bool × Frame)
 answers h [] = []
-answers h (receive f ∷ cs) = answers (called h (receive f)) cs
-answers h (tick ∷ cs) = answers (called h tick) cs
-answers h (sample s ∷ cs) = answers (called h (sample s)) cs
-answers h (slot ∷ cs) = answer h ∷ answers (called h slot) cs
+answers h (receive f ∷ cs) = answers (step h (receive f)) cs
+answers h (tick ∷ cs) = answers (step h tick) cs
+answers h (sample s ∷ cs) = answers (step h (sample s)) cs
+answers h (slot ∷ cs) = answer h ∷ answers (step h slot) cs
 
 -- `?`, `?`, `S 69637`, `?`, `F 601 8 40 04 60 00 00 00 00 00`, `?`, `S -`, `?`, `?`
 abbrev pub session : List Call
@@ -98,11 +91,15 @@ pub record Worked : Type 0 where
   -- 999; 1,000 with scaling off
   pub p12 : Replies missing (bytes 0x23 0x02 0x60 0x00 0xE7 0x03 0 0) (bytes 0x80 0x02 0x60 0x00 0x30 0x00 0x09 0x06)
       × Replies missing (bytes 0x23 0x02 0x60 0x00 0xE8 0x03 0 0) (bytes 0x80 0x02 0x60 0x00 0x22 0x00 0x00 0x08)
-  pub prints : answers node1 session
-      ≡ sends 0x701 1 (0x00 ∷ [])
-      ∷ sends 0x081 8 (bytes 0x00 0x50 0x01 0 0 0 0 0)
-      ∷ sends 0x081 8 (bytes 0 0 0 0 0 0 0 0)
-      ∷ sends 0x581 8 (bytes 0x43 0x04 0x60 0x00 0x05 0x10 0x01 0x00)
-      ∷ sends 0x081 8 (bytes 0x00 0x50 0x01 0 0 0 0 0)
-      ∷ (false, noFrame)
-      ∷ []
+
+-- Input .. prints the whole of:
+abbrev pub Printed : Type 0
+Printed =
+    answers node1 session
+    ≡ sends 0x701 1 (0x00 ∷ [])
+    ∷ sends 0x081 8 (bytes 0x00 0x50 0x01 0 0 0 0 0)
+    ∷ sends 0x081 8 (bytes 0 0 0 0 0 0 0 0)
+    ∷ sends 0x581 8 (bytes 0x43 0x04 0x60 0x00 0x05 0x10 0x01 0x00)
+    ∷ sends 0x081 8 (bytes 0x00 0x50 0x01 0 0 0 0 0)
+    ∷ (false, noFrame)
+    ∷ []

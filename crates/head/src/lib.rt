@@ -4,8 +4,9 @@ ghost use mathlib.Core.Bool.{false};
 ghost use Rattle.position.specs.Profile.{ValidProfile};
 ghost use Rattle.head.specs.States.{started as startedHead};
 ghost use Rattle.head.specs.Acts.{act};
-ghost use Rattle.head.specs.Calls.{heardUnrefused as heardAs, poweredUp, received, ticked, sampled, slotted};
+ghost use Rattle.head.specs.Calls.{heardUnrefused as heardAs};
 ghost use Rattle.head.specs.Valid.{Valid};
+ghost use Rattle.head.specs.Promised.{PowersUp, Receives, Ticks, Samples, Slots};
 use crate::state::Nmt;
 use can::Bytes;
 use can::Frame;
@@ -54,20 +55,22 @@ pub struct Core {
     pub reply: Bytes,
 }
 
+// A head is made by `power_up` and altered by the calls only: the promises are for such heads, and each call leaves one.
 #[repr(C)]
 pub struct Head {
     pub core: Core,
     pub line: Line,
 }
 
-// A refusal's number, 0 for none, and the head.
+// The number of a refusal, 0 for none, and the head, which a refused frame or sample leaves as it was.
+// Numbers 1 and 2 are `can::BAD_IDENTIFIER` and `can::BAD_LENGTH`, 0 is `can::NO_REFUSAL`.
 #[repr(C)]
 pub struct Answer {
     pub refusal: u8,
     pub head: Head,
 }
 
-// The frame to send, all 0 where none waits, and the head.
+// The frame to send, if one waited (it is all 0 otherwise, and not to be sent), and the head.
 #[repr(C)]
 pub struct Sent {
     pub waited: bool,
@@ -87,9 +90,10 @@ pub const BAD_NODE: u8 = 4;
 
 const HIGHEST_RAW: u32 = 1_048_575;
 
+// Initialising, with factory settings, the reading missing. A node number that is not 1..127 is refused with 4,
+// and the head is then of node 1 with identity numbers 0.
 pub fn power_up(node: u8, identity: Identity) -> Answer
-    ensures { λ r. ⌜ r ≡ poweredUp node identity ⌝ }
-    ensures { λ r. ⌜ Valid (r .head) ⌝ }
+    ensures { λ r. ⌜ PowersUp node identity r ⌝ }
 {
     if (1 <= node) & (node <= 127) {
         return Answer {
@@ -135,10 +139,10 @@ fn started(node: u8, identity: Identity) -> Head
     }
 }
 
+// A frame from the bus. Refused with 1 or 2; one that is not meant for the head changes nothing.
 pub fn receive(head: Head, frame: Received) -> Answer
     requires { ⌜ Valid head ⌝ }
-    ensures { λ r. ⌜ r ≡ received head frame ⌝ }
-    ensures { λ r. ⌜ Valid (r .head) ⌝ }
+    ensures { λ r. ⌜ Receives head frame r ⌝ }
 {
     let refusal = can::refusal(frame);
     if refusal != can::NO_REFUSAL {
@@ -170,10 +174,10 @@ fn heard(head: Head, frame: Received) -> Head
     head
 }
 
+// 1 ms went by.
 pub fn tick(head: Head) -> Head
     requires { ⌜ Valid head ⌝ }
-    ensures { λ r. ⌜ r ≡ ticked head ⌝ }
-    ensures { λ r. ⌜ Valid r ⌝ }
+    ensures { λ r. ⌜ Ticks head r ⌝ }
 {
     let state = head.core.nmt;
     if state::is_initialising(state) {
@@ -186,10 +190,10 @@ pub fn tick(head: Head) -> Head
     settle::settled(head, time::timed(core, runs), time::due(settings, timers))
 }
 
+// A raw position, or "missing". A raw position above 1,048,575 is refused with 3.
 pub fn sample(head: Head, sensor: Sensor) -> Answer
     requires { ⌜ Valid head ⌝ }
-    ensures { λ r. ⌜ r ≡ sampled head sensor ⌝ }
-    ensures { λ r. ⌜ Valid (r .head) ⌝ }
+    ensures { λ r. ⌜ Samples head sensor r ⌝ }
 {
     let Sensor::Raw(raw) = sensor else {
         return Answer {
@@ -209,10 +213,10 @@ pub fn sample(head: Head, sensor: Sensor) -> Answer
     }
 }
 
+// A frame can be sent: the first that waits is, or none exactly if none waits.
 pub fn slot(head: Head) -> Sent
     requires { ⌜ Valid head ⌝ }
-    ensures { λ r. ⌜ r ≡ slotted head ⌝ }
-    ensures { λ r. ⌜ Valid (r .head) ⌝ }
+    ensures { λ r. ⌜ Slots head r ⌝ }
 {
     let core = head.core;
     let state = core.nmt;
