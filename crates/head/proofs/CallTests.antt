@@ -2,7 +2,7 @@
 use Prim.Native.Nat.{ℕ, _<_, _≤_}
 use lib.Dec.{eqb}
 use mathlib.Core.Path.{_≡_, refl, sym, ap, subst, _∙_}
-use mathlib.Core.Bool.{Bool, true, false, not, _||_}
+use mathlib.Core.Bool.{true, false, not, _||_}
 use borrow.Author.Tests.{lt-ltb, le-ltb, leb-true}
 use native.Mathlib.Omega.{arith}
 use Rattle.can.specs.declared.Received.{Received}
@@ -17,8 +17,8 @@ use Rattle.head.specs.declared.Sent.{Sent}
 use Rattle.head.specs.declared.Sensor.the-variants.{Missing, Raw}
 use Rattle.head.specs.States.{operational, isIn, isInitialising, communication, started}
 use Rattle.head.specs.Timers.{timersTicked}
-use Rattle.head.specs.Acts.{Act, nothing, take, lose, time, acted, timing, timeMoments, emergencyOnly, settledTo, act, frameBy}
-use Rattle.head.specs.Calls.{Call, receive, tick, sample, slot, timed, sampledAs, sentBy, step, answered, noIdentity, poweredUp, received, ticked, sampled, isFrame, frameIn, slotted}
+use Rattle.head.specs.Acts.{take, lose, time, acted, timing, timeMoments, emergencyOnly, settledTo, act, frameBy}
+use Rattle.head.specs.Calls.{Call, receive, tick, sample, slot, timed, sampledAs, sentBy, step, answered, noIdentity, poweredUp, received, ticked, sampled, frameIn, slotted}
 use Rattle.head.specs.Valid.{Valid}
 use Rattle.head.proofs.Nothing.{act-nothing}
 use Rattle.head.proofs.CommandTests.{none-acts}

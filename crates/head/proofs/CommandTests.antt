@@ -2,11 +2,11 @@
 use Prim.Native.Nat.{ℕ}
 use lib.Dec.{eqb, leb}
 use mathlib.Core.Path.{_≡_, refl, sym, ap, _∙_}
-use mathlib.Core.Bool.{Bool, true, false, _&&_, _||_, cond}
+use mathlib.Core.Bool.{Bool, true, false, _&&_, _||_}
 use Rattle.can.specs.declared.Received.{Received}
 use Rattle.cases.proofs.Cases.{by₂}
 use Rattle.head.specs.declared.Head.{Head}
-use Rattle.head.specs.States.{Goal, operational, state, isIn, node, communication, Reset, restored, Command, noCommand, toEnter, toReset, command, resetCommand, byteOf, commandOf}
+use Rattle.head.specs.States.{Goal, operational, state, isIn, node, communication, Reset, restored, Command, toEnter, command, resetCommand, byteOf, commandOf}
 use Rattle.head.specs.Timers.{timersSynced}
 use Rattle.head.specs.Acts.{Act, nothing, reset, sync, resetWith, emergencyOnly, timing, syncMoments, settledTo, act}
 use Rattle.head.specs.Calls.{commanded, synchronised}

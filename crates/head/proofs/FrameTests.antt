@@ -1,14 +1,13 @@
 -- What a frame means, by the tests that the code makes.
-use Prim.Native.Nat.{ℕ, _+_}
-use lib.Dec.{eqb}
-use mathlib.Core.Path.{_≡_, sym, ap, _∙_}
+use Prim.Native.Nat.{_+_}
+use mathlib.Core.Path.{_≡_, sym, ap}
 use mathlib.Core.Bool.{Bool, true, false, _||_}
 use borrow.Author.Tests.{eq-eqb, ne-eqb}
 use Rattle.can.specs.declared.Received.{Received}
 use Rattle.can.specs.Frame.{refusalOf}
 use Rattle.head.specs.declared.Head.{Head}
 use Rattle.head.specs.States.{isInitialising, node, commandOf}
-use Rattle.head.specs.Acts.{Act, nothing, act}
+use Rattle.head.specs.Acts.{Act, act}
 use Rattle.head.specs.Calls.{commanded, synchronised, requested, heardUnrefused, receive, step}
 use Rattle.head.proofs.CommandTests.{none-acts}
 

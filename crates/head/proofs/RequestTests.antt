@@ -1,7 +1,7 @@
 -- What a service request does, by the tests that the code makes; and what a write that the server confirms owes the dictionary.
 use Prim.Native.Nat.{ℕ}
 use lib.Dec.{eqb}
-use mathlib.Core.Path.{_≡_, refl, sym, ap, subst, _∙_}
+use mathlib.Core.Path.{_≡_, sym, ap, _∙_}
 use mathlib.Core.Bool.{Bool, true, false, not, _&&_}
 use mathlib.Core.List.{List}
 use Rattle.can.specs.declared.Received.{Received}
@@ -9,7 +9,6 @@ use Rattle.cases.proofs.Cases.{true-false}
 use Rattle.dictionary.specs.declared.Device.{Device}
 use Rattle.dictionary.specs.declared.table.Found.{Found}
 use Rattle.dictionary.specs.Table.{lookup}
-use Rattle.dictionary.specs.Writes.{Fits}
 use Rattle.dictionary.proofs.Laws.{laws}
 use Rattle.sdo.specs.declared.reply.Effect.{Effect}
 use Rattle.sdo.specs.declared.reply.Effect.the-variants.{Nothing, Reply, Write}
@@ -22,7 +21,7 @@ use Rattle.waiting.specs.Line as line
 use Rattle.waiting.specs.Line.{has}
 use Rattle.head.specs.declared.Head.{Head}
 use Rattle.head.specs.States.{operational, isIn, isLive}
-use Rattle.head.specs.Acts.{nothing, serve, requestMoments, serving, settledTo, act}
+use Rattle.head.specs.Acts.{serve, requestMoments, serving, settledTo, act}
 use Rattle.head.specs.Calls.{served, requested}
 use Rattle.head.specs.Steps.{Taken, servedWith}
 use Rattle.head.proofs.CommandTests.{none-acts}

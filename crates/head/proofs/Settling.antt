@@ -1,7 +1,7 @@
 -- Kind after kind, each if it is due: what the code does is what joins, and what is withdrawn, in one call.
 use Prim.Native.Nat.{ℕ}
 use mathlib.Core.Path.{_≡_, refl, sym, _∙_}
-use mathlib.Core.Bool.{Bool, cond}
+use mathlib.Core.Bool.{Bool}
 use mathlib.Core.List.{List, [], _∷_}
 use Rattle.cases.proofs.Cases.{by₂}
 use Rattle.waiting.specs.Calls.{joinsIn, withdrawsIn, ifDue, thoseDue}

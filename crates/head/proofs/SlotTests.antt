@@ -2,7 +2,7 @@
 use Prim.Native.Nat.{ℕ, _+_}
 use lib.Dec.{eqb}
 use mathlib.Core.Path.{_≡_, refl, sym, ap, _∙_}
-use mathlib.Core.Bool.{Bool, true, false, not, _||_}
+use mathlib.Core.Bool.{true, false, not, _||_}
 use borrow.Author.Tests.{eqb-true, ne-eqb}
 use Rattle.cases.proofs.Cases.{by, cond-ap}
 use mathlib.Core.List.{[], _∷_}
@@ -13,7 +13,7 @@ use Rattle.head.specs.declared.Head.{Head}
 use Rattle.head.specs.declared.settle.Flags.{Flags}
 use Rattle.head.specs.States.{one, two, isInitialising, node}
 use Rattle.head.specs.Acts.{Act, boot, idle, send, sending, acted, moments, emergencyOnly, settledTo, act, frameBy}
-use Rattle.head.specs.Calls.{sentBy, isFrame, frameIn, slotted}
+use Rattle.head.specs.Calls.{sentBy, isFrame, frameIn}
 use Rattle.head.specs.WaitingLine.{Kind, emergency, sdoReply, heartbeat, tpdo, number, kindOf, frame}
 use Rattle.head.specs.Steps.{pdoOf}
 

@@ -4,7 +4,6 @@ ghost use Prim.Native.Nat.{suc};
 ghost use lib.Dec.{ltb};
 ghost use mathlib.Core.Bool.{false, _&&_, cond};
 ghost use Rattle.head.specs.Acts.{act, take, lose};
-use crate::Core;
 use crate::Head;
 use crate::settle;
 
