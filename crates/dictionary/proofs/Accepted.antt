@@ -3,9 +3,9 @@ use Prim.Native.Nat.{ℕ}
 use native.Mathlib.Omega.{arith}
 use mathlib.Core.Path.{_≡_, refl, _∙_}
 use mathlib.Core.Bool.{Bool, true, false, not, cond}
-use Rattle.dictionary.specs.declared.Device.{Device}
-use Rattle.dictionary.specs.declared.table.Row.{Row}
-use Rattle.dictionary.specs.Table.{keyOf}
+use Rattle.entries.specs.declared.Device.{Device}
+use Rattle.entries.specs.declared.table.Row.{Row}
+use Rattle.entries.specs.Table.{keyOf}
 use Rattle.dictionary.specs.Accepted.{acceptsIn, isSignature, valueRefusal, barred, refusal}
 
 -- the code of a value that is accepted or not, of a signature or not

@@ -3,20 +3,16 @@ use Prim.Native.Nat.{ℕ}
 use mathlib.Core.Path.{_≡_, refl, sym, _∙_, ap}
 use mathlib.Core.Bool.{Bool}
 use mathlib.Core.List.{List, map}
-use lib.ListN.{length, getD, List·getD-map}
-use Rattle.dictionary.specs.declared.Device.{Device}
-use Rattle.dictionary.specs.declared.table.Row.{Row}
-use Rattle.dictionary.specs.Table.{Entry, entries, table, noRow, keyOf}
+use lib.ListN.{getD, List·getD-map}
+use Rattle.entries.specs.declared.Device.{Device}
+use Rattle.entries.specs.declared.table.Row.{Row}
+use Rattle.entries.specs.Table.{Entry, entries, table, noRow, keyOf}
 use Rattle.dictionary.specs.Reads.{noEntry, numbers, blanks}
 
 -- Columns that are equal are equal at each place.
 pub at-place : {A B : Type 0} (f g : A → B) (l : List A) (a : A) (p : ℕ) → f a ≡ g a → map f l ≡ map g l → f (getD l p a) ≡ g (getD l p a)
 at-place f g l a p e c =
     sym (List·getD-map f l p a) ∙ ap (λ x. getD (map f l) p x) e ∙ ap (λ k. getD k p (g a)) c ∙ List·getD-map g l p a
-
-pub rows-are : length table ≡ 44
-unfolding table entries
-rows-are = refl
 
 pub row-of : (p : ℕ) → getD table p noRow ≡ getD entries p noEntry .row
 unfolding table

@@ -6,7 +6,7 @@ use mathlib.Core.Path.{_≡_, refl}
 use mathlib.Core.Bool.{true}
 use borrow.Author.Tests.{le-leb, eq-eqb}
 use Rattle.position.proofs.Worked.{worked}
-use Rattle.dictionary.specs.Settings.{factory}
+use Rattle.entries.specs.Settings.{factory}
 use Rattle.dictionary.specs.Accepted.{pdoIdentifier}
 use Rattle.dictionary.specs.Valid.{ValidSettings}
 

@@ -1,26 +1,20 @@
--- The laws of specs/Laws, collected; the order of the keys and the second index by computation. Assumes nothing.
+-- The laws of specs/Laws, collected; the second index by computation. Assumes nothing.
 use Prim.Native.Nat.{ℕ}
 use mathlib.Core.Path.{_≡_, refl, _∙_, ap}
-use mathlib.Core.Bool.{Bool, true}
-use mathlib.Core.List.{map}
+use mathlib.Core.Bool.{Bool}
 use mathlib.Core.Option.{some}
-use Rattle.dictionary.specs.declared.Device.{Device}
-use Rattle.dictionary.specs.declared.table.Found.the-variants.{At}
+use Rattle.entries.specs.declared.Device.{Device}
+use Rattle.entries.specs.declared.table.Found.the-variants.{At}
+use Rattle.entries.specs.Table.{entries, table, lookup}
 use Rattle.dictionary.specs.declared.read.Shown.{Shown}
 use Rattle.dictionary.specs.declared.read.Shown.the-variants.{Number}
-use Rattle.dictionary.specs.Table.{entries, table, lookup, key}
 use Rattle.dictionary.specs.Reads.{shownAt, readOf}
 use Rattle.dictionary.specs.Writes.{written}
-use Rattle.dictionary.specs.Laws.{Shows, risesFrom, Laws}
+use Rattle.dictionary.specs.Laws.{Shows, Laws}
 use Rattle.dictionary.proofs.Factory.{factory-valid}
 use Rattle.dictionary.proofs.Valid.{written-fits, written-valid}
 use Rattle.dictionary.proofs.ReadBack.{reads-back}
 use Rattle.dictionary.proofs.Typed.{typed}
-use Rattle.dictionary.proofs.Found.{finds}
-
-rising : risesFrom 0 (map key table) ≡ true
-unfolding table entries
-rising = refl
 
 -- what stands at the place that is found
 shows : (d : Device) (o : Bool) (i j : ℕ) {p : ℕ} {s : Shown} → lookup i j ≡ At p → shownAt d o p ≡ s → Shows d o i j s
@@ -42,8 +36,6 @@ laws =
       written-fits = written-fits;
       reads-back = reads-back;
       typed = typed;
-      finds = finds;
-      rising = rising;
       second-reads = second-reads;
       second-writes = second-writes;
     }

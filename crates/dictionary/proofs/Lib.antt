@@ -1,8 +1,6 @@
-pub mod Lookup
 pub mod Accepted
 pub mod Columns
 pub mod Those
-pub mod Found
 pub mod Factory
 pub mod Valid
 pub mod Typed

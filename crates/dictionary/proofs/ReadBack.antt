@@ -7,9 +7,9 @@ use lib.Dec.{eqb}
 use lib.ListN.{getD}
 use borrow.Author.Tests.{eqb-true}
 use Rattle.cases.proofs.Cases.{by}
-use Rattle.dictionary.specs.declared.Device.{Device}
-use Rattle.dictionary.specs.declared.table.Row.{Row}
-use Rattle.dictionary.specs.Table.{Entry, entries, table, noRow, rowAt, key}
+use Rattle.entries.specs.declared.Device.{Device}
+use Rattle.entries.specs.declared.table.Row.{Row}
+use Rattle.entries.specs.Table.{Entry, entries, table, noRow, rowAt, key}
 use Rattle.dictionary.specs.Accepted.{acceptsIn, isSignature}
 use Rattle.dictionary.specs.Reads.{noEntry}
 use Rattle.dictionary.specs.Writes.{written}

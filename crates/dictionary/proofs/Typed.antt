@@ -13,8 +13,8 @@ use Rattle.position.specs.declared.Profile.{Profile}
 use Rattle.position.specs.Position.{position}
 use Rattle.position.specs.Profile.{ValidProfile}
 use Rattle.position.proofs.Laws.{laws}
-use Rattle.dictionary.specs.declared.Device.{Device}
-use Rattle.dictionary.specs.Table.{Entry, missing, entries, table, rowAt}
+use Rattle.entries.specs.declared.Device.{Device}
+use Rattle.entries.specs.Table.{Entry, missing, entries, table, rowAt}
 use Rattle.dictionary.specs.Accepted.{within, transmissionType}
 use Rattle.dictionary.specs.Reads.{noEntry}
 use Rattle.dictionary.specs.Valid.{ValidDevice}

@@ -10,13 +10,13 @@ use Rattle.position.specs.declared.Profile.{Profile}
 use Rattle.position.specs.Position.{bit, scalingBit}
 use Rattle.position.specs.Profile.{fullRange, scaledRange, ValidProfile}
 use Rattle.position.proofs.Laws.{laws}
-use Rattle.dictionary.specs.declared.Pdo.{Pdo}
-use Rattle.dictionary.specs.declared.Communication.{Communication}
-use Rattle.dictionary.specs.declared.Settings.{Settings}
-use Rattle.dictionary.specs.declared.Device.{Device}
-use Rattle.dictionary.specs.declared.table.Row.{Row}
-use Rattle.dictionary.specs.Settings.{pdo}
-use Rattle.dictionary.specs.Table.{missing, entries, table, noRow, rowAt, key}
+use Rattle.entries.specs.declared.Pdo.{Pdo}
+use Rattle.entries.specs.declared.Communication.{Communication}
+use Rattle.entries.specs.declared.Settings.{Settings}
+use Rattle.entries.specs.declared.Device.{Device}
+use Rattle.entries.specs.declared.table.Row.{Row}
+use Rattle.entries.specs.Settings.{pdo}
+use Rattle.entries.specs.Table.{missing, entries, table, noRow, rowAt, key}
 use Rattle.dictionary.specs.Accepted.{within, emergencyIdentifier, pdoIdentifier, transmissionType, operatingParameters, pdoBarred, accepts, acceptsIn}
 use Rattle.dictionary.specs.Writes.{rangeFor, rescaledTo, written, Fits}
 use Rattle.dictionary.specs.Valid.{ValidPdo, ValidCommunication, ValidSettings, ValidDevice}

@@ -5,12 +5,12 @@ use mathlib.Core.Bool.{Bool, true, false, not, _&&_, _||_, cond}
 use mathlib.Core.List.{[], _∷_}
 use Rattle.cases.specs.Cases.{firstOf}
 use Rattle.position.specs.Position.{bit, scalingBit}
-use Rattle.dictionary.specs.declared.Pdo.{Pdo}
-use Rattle.dictionary.specs.declared.Device.{Device}
-use Rattle.dictionary.specs.declared.table.Row.{Row}
-use Rattle.dictionary.specs.declared.table.Accepted.{Accepted}
-use Rattle.dictionary.specs.declared.table.Accepted.the-variants.{Nothing, All, Only, Signature, Between, EmergencyIdentifier, PdoIdentifier, TransmissionType, OperatingParameters, BelowRange}
-use Rattle.dictionary.specs.Table.{missing, accepted, keyOf, key}
+use Rattle.entries.specs.declared.Pdo.{Pdo}
+use Rattle.entries.specs.declared.Device.{Device}
+use Rattle.entries.specs.declared.table.Row.{Row}
+use Rattle.entries.specs.declared.table.Accepted.{Accepted}
+use Rattle.entries.specs.declared.table.Accepted.the-variants.{Nothing, All, Only, Signature, Between, EmergencyIdentifier, PdoIdentifier, TransmissionType, OperatingParameters, BelowRange}
+use Rattle.entries.specs.Table.{missing, accepted, keyOf, key}
 
 abbrev pub within : ℕ → ℕ → ℕ → Bool
 within low high v = leb low v && leb v high

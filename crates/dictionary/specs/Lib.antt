@@ -1,5 +1,3 @@
-pub mod Settings
-pub mod Table
 pub mod Accepted
 pub mod Reads
 pub mod Writes

@@ -4,11 +4,11 @@ use Prim.Native.Nat.{ℕ, _≤_}
 use mathlib.Core.Path.{_≡_}
 use mathlib.Core.Bool.{true, false}
 use Rattle.position.specs.Profile.{ValidProfile}
-use Rattle.dictionary.specs.declared.Pdo.{Pdo}
-use Rattle.dictionary.specs.declared.Communication.{Communication}
-use Rattle.dictionary.specs.declared.Settings.{Settings}
-use Rattle.dictionary.specs.declared.Identity.{Identity}
-use Rattle.dictionary.specs.declared.Device.{Device}
+use Rattle.entries.specs.declared.Pdo.{Pdo}
+use Rattle.entries.specs.declared.Communication.{Communication}
+use Rattle.entries.specs.declared.Settings.{Settings}
+use Rattle.entries.specs.declared.Identity.{Identity}
+use Rattle.entries.specs.declared.Device.{Device}
 use Rattle.dictionary.specs.Accepted.{emergencyIdentifier, pdoIdentifier, transmissionType}
 
 pub record ValidPdo (p : Pdo) : Type 0 where

@@ -6,14 +6,14 @@ use mathlib.Core.Path.{_≡_}
 use mathlib.Core.Bool.{Bool, true, false, not, _&&_, cond}
 use mathlib.Core.List.{List, [], _∷_}
 use mathlib.Core.Option.{Option, none, some}
-use Rattle.dictionary.specs.declared.Device.{Device}
-use Rattle.dictionary.specs.declared.table.Row.{Row}
-use Rattle.dictionary.specs.declared.table.Found.{Found}
-use Rattle.dictionary.specs.declared.table.Found.the-variants.{At, NoSubIndex, NoIndex}
+use Rattle.entries.specs.declared.Device.{Device}
+use Rattle.entries.specs.declared.table.Row.{Row}
+use Rattle.entries.specs.declared.table.Found.{Found}
+use Rattle.entries.specs.declared.table.Found.the-variants.{At, NoSubIndex, NoIndex}
+use Rattle.entries.specs.Settings.{factory}
+use Rattle.entries.specs.Table.{table, rowAt, width, isRw, key, lookup}
 use Rattle.dictionary.specs.declared.read.Shown.{Shown}
 use Rattle.dictionary.specs.declared.read.Shown.the-variants.{Blank, Number}
-use Rattle.dictionary.specs.Settings.{factory}
-use Rattle.dictionary.specs.Table.{table, rowAt, width, isRw, key, lookup}
 use Rattle.dictionary.specs.Accepted.{refusal}
 use Rattle.dictionary.specs.Reads.{reads}
 use Rattle.dictionary.specs.Writes.{written}

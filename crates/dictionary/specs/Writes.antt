@@ -7,12 +7,12 @@ use mathlib.Core.Bool.{Bool, _||_, cond}
 use Rattle.position.specs.declared.Profile.{Profile}
 use Rattle.position.specs.Position.{bit, scalingBit, presetTo}
 use Rattle.position.specs.Profile.{scaledRange, fullRange}
-use Rattle.dictionary.specs.declared.Pdo.{Pdo}
-use Rattle.dictionary.specs.declared.Communication.{Communication}
-use Rattle.dictionary.specs.declared.Settings.{Settings}
-use Rattle.dictionary.specs.declared.Device.{Device}
-use Rattle.dictionary.specs.Settings.{factory}
-use Rattle.dictionary.specs.Table.{keyOf}
+use Rattle.entries.specs.declared.Pdo.{Pdo}
+use Rattle.entries.specs.declared.Communication.{Communication}
+use Rattle.entries.specs.declared.Settings.{Settings}
+use Rattle.entries.specs.declared.Device.{Device}
+use Rattle.entries.specs.Settings.{factory}
+use Rattle.entries.specs.Table.{keyOf}
 
 abbrev pub pdoAfter : ℕ → Pdo → ℕ → ℕ → Pdo
 pdoAfter index p k v =

@@ -2,17 +2,17 @@
 ghost use mathlib.Core.Path.{_≡_};
 ghost use mathlib.Core.Bool.{cond};
 ghost use Rattle.dictionary.specs.Accepted.{on, pdoIdentifier, transmissionType, valueRefusal, pdoBarred, barred as barredBy, refusal as refusalOf};
-use crate::Device;
-use crate::Pdo;
-use crate::table;
-use crate::table::Accepted;
-use crate::table::PRESET;
-use crate::table::RANGE;
-use crate::table::Row;
-use crate::table::STEP;
-use crate::table::TPDO1;
-use crate::table::TPDO2;
-use crate::table::key_of;
+use entries::Device;
+use entries::Pdo;
+use entries::table;
+use entries::table::Accepted;
+use entries::table::PRESET;
+use entries::table::RANGE;
+use entries::table::Row;
+use entries::table::STEP;
+use entries::table::TPDO1;
+use entries::table::TPDO2;
+use entries::table::key_of;
 
 pub const INVALID_VALUE: u32 = 0x0609_0030;
 

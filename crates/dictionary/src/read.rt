@@ -4,14 +4,14 @@ ghost use mathlib.Core.Bool.{not, cond};
 ghost use Prim.Native.Nat.{_+_, _<_};
 ghost use lib.ListN.{length};
 ghost use Rattle.position.specs.Profile.{ValidProfile};
-ghost use Rattle.dictionary.specs.Table.{table};
+ghost use Rattle.entries.specs.Table.{table};
 ghost use Rattle.dictionary.specs.Reads.{blanks, numbers as numbersOf, shownAt};
-use crate::Device;
-use crate::table;
-use crate::table::ERROR_COUNT;
-use crate::table::POSITION;
-use crate::table::ROWS;
-use crate::table::row_at;
+use entries::Device;
+use entries::table;
+use entries::table::ERROR_COUNT;
+use entries::table::POSITION;
+use entries::table::ROWS;
+use entries::table::row_at;
 
 // A blank is no number: 6004h while the reading is missing, 1003-1..4 beyond the count.
 pub enum Shown {

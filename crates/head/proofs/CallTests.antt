@@ -8,7 +8,7 @@ use native.Mathlib.Omega.{arith}
 use Rattle.can.specs.declared.Received.{Received}
 use Rattle.can.specs.Frame.{refusalOf}
 use Rattle.cases.proofs.Cases.{both}
-use Rattle.dictionary.specs.declared.Identity.{Identity}
+use Rattle.entries.specs.declared.Identity.{Identity}
 use Rattle.dictionary.specs.Accepted.{within}
 use Rattle.dictionary.specs.Valid.{ValidIdentity}
 use Rattle.waiting.specs.Line.{first}

@@ -6,8 +6,8 @@ use mathlib.Core.Bool.{Bool, true, false, not, _&&_, _||_, and-true, cond}
 use mathlib.Core.Logic.{inl, inr}
 use borrow.Author.Tests.{ltb-true}
 use Rattle.cases.proofs.Cases.{by, neither, true-false}
-use Rattle.dictionary.specs.declared.Pdo.{Pdo}
-use Rattle.dictionary.specs.Table.{keyOf}
+use Rattle.entries.specs.declared.Pdo.{Pdo}
+use Rattle.entries.specs.Table.{keyOf}
 use Rattle.dictionary.specs.Accepted.{on, pdoBarred}
 use Rattle.dictionary.specs.Writes.{pdoAfter}
 use Rattle.head.specs.declared.Clock.{Clock}

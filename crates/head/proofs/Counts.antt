@@ -7,10 +7,10 @@ use mathlib.Core.Bool.{Bool, false, not, _&&_, _||_, or-true, or-false}
 use mathlib.Core.List.{List}
 use mathlib.Core.Logic.{inl}
 use Rattle.cases.proofs.Cases.{by, by₂, neither, test}
-use Rattle.dictionary.specs.declared.Pdo.{Pdo}
-use Rattle.dictionary.specs.declared.Communication.{Communication}
-use Rattle.dictionary.specs.declared.table.Found.{Found}
-use Rattle.dictionary.specs.Table.{missing, rowAt}
+use Rattle.entries.specs.declared.Pdo.{Pdo}
+use Rattle.entries.specs.declared.Communication.{Communication}
+use Rattle.entries.specs.declared.table.Found.{Found}
+use Rattle.entries.specs.Table.{missing, rowAt}
 use Rattle.dictionary.specs.Accepted.{pdoBarred, barred}
 use Rattle.dictionary.specs.Writes.{ownKey, written}
 use Rattle.dictionary.specs.Valid.{ValidDevice}

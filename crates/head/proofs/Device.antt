@@ -6,8 +6,8 @@ use mathlib.Core.Path.{_≡_, refl}
 use mathlib.Core.Bool.{Bool, false, _&&_}
 use borrow.Author.Tests.{ltb-true}
 use Rattle.cases.proofs.Cases.{by, both, true-false}
-use Rattle.dictionary.specs.declared.Device.{Device}
-use Rattle.dictionary.specs.declared.Reading.{Reading}
+use Rattle.entries.specs.declared.Device.{Device}
+use Rattle.entries.specs.declared.Reading.{Reading}
 use Rattle.dictionary.specs.Valid.{ValidSettings, ValidDevice}
 use Rattle.sdo.proofs.Laws.{laws}
 use Rattle.head.specs.declared.Core.{Core}

@@ -8,7 +8,7 @@ use mathlib.Core.Bool.{Bool, true, false}
 use borrow.Author.Tests.{leb-true, ltb-true, ltb-false, lt-ltb, le-ltb}
 use Rattle.cases.proofs.Cases.{by, both}
 use Rattle.can.specs.Frame.{badIdentifier, badLength}
-use Rattle.dictionary.specs.declared.Identity.{Identity}
+use Rattle.entries.specs.declared.Identity.{Identity}
 use Rattle.dictionary.specs.Accepted.{within}
 use Rattle.dictionary.specs.Valid.{ValidIdentity}
 use Rattle.head.specs.declared.Head.{Head}

@@ -5,8 +5,8 @@ use mathlib.Core.Path.{_≡_, refl, sym, _∙_}
 use mathlib.Core.Bool.{Bool, true, false, not, _&&_, _||_, and-true, and-false}
 use borrow.Author.Tests.{not-true}
 use Rattle.cases.proofs.Cases.{both, true-false}
-use Rattle.dictionary.specs.declared.Identity.{Identity}
-use Rattle.dictionary.specs.Settings.{factory}
+use Rattle.entries.specs.declared.Identity.{Identity}
+use Rattle.entries.specs.Settings.{factory}
 use Rattle.dictionary.specs.Valid.{ValidIdentity}
 use Rattle.dictionary.proofs.Laws.{laws as dictionary-laws}
 use Rattle.waiting.specs.Line.{places}

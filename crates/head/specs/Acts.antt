@@ -6,11 +6,11 @@ use mathlib.Core.Bool.{Bool, true, false, not, _&&_, cond}
 use mathlib.Core.List.{List}
 use mathlib.Core.Option.{Option, none, some}
 use Rattle.can.specs.declared.Frame.{Frame}
-use Rattle.dictionary.specs.declared.Communication.{Communication}
-use Rattle.dictionary.specs.declared.Device.{Device}
-use Rattle.dictionary.specs.declared.Pdo.{Pdo}
-use Rattle.dictionary.specs.declared.Reading.{Reading}
-use Rattle.dictionary.specs.declared.Settings.{Settings}
+use Rattle.entries.specs.declared.Communication.{Communication}
+use Rattle.entries.specs.declared.Device.{Device}
+use Rattle.entries.specs.declared.Pdo.{Pdo}
+use Rattle.entries.specs.declared.Reading.{Reading}
+use Rattle.entries.specs.declared.Settings.{Settings}
 use Rattle.sdo.specs.declared.reply.Effect.{Effect}
 use Rattle.sdo.specs.declared.reply.Effect.the-variants.{Nothing, Reply, Write}
 use Rattle.sdo.specs.declared.reply.Served.{Served}

@@ -6,7 +6,7 @@ use mathlib.Core.Bool.{true, false}
 use mathlib.Core.List.{[]}
 use Rattle.can.specs.declared.Received.{Received}
 use Rattle.can.specs.Frame.{badIdentifier, badLength}
-use Rattle.dictionary.specs.declared.Identity.{Identity}
+use Rattle.entries.specs.declared.Identity.{Identity}
 use Rattle.dictionary.specs.Accepted.{within}
 use Rattle.dictionary.specs.Valid.{ValidIdentity}
 use Rattle.sdo.specs.Request.{aborting}

@@ -2,7 +2,7 @@
 use Prim.Native.Nat.{ℕ}
 use mathlib.Core.Path.{_≡_}
 use Rattle.can.specs.declared.Received.{Received}
-use Rattle.dictionary.specs.declared.Identity.{Identity}
+use Rattle.entries.specs.declared.Identity.{Identity}
 use Rattle.head.specs.declared.Head.{Head}
 use Rattle.head.specs.declared.Answer.{Answer}
 use Rattle.head.specs.declared.Sent.{Sent}

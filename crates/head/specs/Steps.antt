@@ -5,7 +5,7 @@ use mathlib.Core.Path.{_≡_}
 use mathlib.Core.Bool.{false, not, _&&_, cond}
 use mathlib.Core.List.{List}
 use Rattle.can.specs.declared.Frame.{Frame}
-use Rattle.dictionary.specs.declared.Device.{Device}
+use Rattle.entries.specs.declared.Device.{Device}
 use Rattle.dictionary.specs.Writes.{Fits}
 use Rattle.sdo.specs.declared.reply.Effect.{Effect}
 use Rattle.sdo.specs.declared.reply.Effect.the-variants.{Write}

@@ -2,8 +2,8 @@
 use Prim.Native.Nat.{ℕ, suc, _+_, _-_, _/_}
 use lib.Dec.{eqb, ltb}
 use mathlib.Core.Bool.{Bool, not, _&&_, _||_, cond}
-use Rattle.dictionary.specs.declared.Pdo.{Pdo}
-use Rattle.dictionary.specs.declared.Communication.{Communication}
+use Rattle.entries.specs.declared.Pdo.{Pdo}
+use Rattle.entries.specs.declared.Communication.{Communication}
 use Rattle.dictionary.specs.Accepted.{within, on}
 use Rattle.head.specs.declared.Clock.{Clock}
 use Rattle.head.specs.declared.Timers.{Timers}

@@ -4,8 +4,8 @@ use Prim.Native.Nat.{ℕ, _<_, _≤_}
 use mathlib.Core.Path.{_≡_}
 use mathlib.Core.Bool.{Bool, true, _||_}
 use mathlib.Core.Logic.{_⊎_}
-use Rattle.dictionary.specs.declared.Communication.{Communication}
-use Rattle.dictionary.specs.declared.Pdo.{Pdo}
+use Rattle.entries.specs.declared.Communication.{Communication}
+use Rattle.entries.specs.declared.Pdo.{Pdo}
 use Rattle.dictionary.specs.Accepted.{on}
 use Rattle.dictionary.specs.Valid.{ValidDevice}
 use Rattle.waiting.specs.Line.{places, has}

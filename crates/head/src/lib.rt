@@ -11,10 +11,10 @@ use crate::state::Nmt;
 use can::Bytes;
 use can::Frame;
 use can::Received;
-use dictionary::Device;
-use dictionary::Identity;
-use dictionary::Reading;
-use dictionary::Settings;
+use entries::Device;
+use entries::Identity;
+use entries::Reading;
+use entries::Settings;
 use waiting::Line;
 
 mod emergency;

@@ -15,8 +15,8 @@ use crate::state::Nmt;
 use crate::time;
 use crate::tpdo;
 use can::Received;
-use dictionary::Communication;
-use dictionary::Settings;
+use entries::Communication;
+use entries::Settings;
 
 pub const COMMAND: u32 = 0x000;
 

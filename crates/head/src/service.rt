@@ -18,19 +18,17 @@ use crate::time;
 use crate::tpdo;
 use can::Bytes;
 use can::Received;
-use dictionary::Communication;
-use dictionary::table::CYCLE;
-use dictionary::table::HEARTBEAT;
-use dictionary::table::TPDO1_EVENT;
+use entries::Communication;
+use entries::table::CYCLE;
+use entries::table::HEARTBEAT;
+use entries::table::TPDO1_EVENT;
+use entries::table::TPDO2_EVENT;
 use sdo::reply::Effect;
 use sdo::reply::Served;
 
 pub const REQUEST: u32 = 0x600;
 
 const REQUEST_LENGTH: u8 = 8;
-
-// 1801-5.
-const TPDO2_EVENT: u32 = 0x1801_05;
 
 pub fn requested(head: Head, frame: Received) -> Head
     requires { ⌜ ValidProfile (head .core .device .settings .profile) ⌝ }

@@ -11,7 +11,7 @@ use crate::settle::Flags;
 use crate::state;
 use crate::time;
 use crate::tpdo;
-use dictionary::Communication;
+use entries::Communication;
 
 pub const SYNC: u32 = 0x080;
 

@@ -10,8 +10,8 @@ use crate::Core;
 use crate::Timers;
 use crate::settle::Flags;
 use crate::tpdo;
-use dictionary::Communication;
-use dictionary::Pdo;
+use entries::Communication;
+use entries::Pdo;
 
 // One more of a period; at its end the count begins again.
 pub fn counted(period: u32, count: u32) -> u32

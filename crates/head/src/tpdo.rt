@@ -8,8 +8,8 @@ use crate::Clock;
 use crate::state;
 use crate::state::Nmt;
 use crate::time;
-use dictionary::Pdo;
 use dictionary::accept::is_on;
+use entries::Pdo;
 
 // Types 1 to 240 are sent at each so-many-th SYNC, types 254 and 255 by events.
 const MOST_SYNCS: u32 = 240;

@@ -10,11 +10,11 @@ use borrow.Author.Tests.{eqb-true, le-ltb}
 use Rattle.cases.proofs.Cases.{by, test, true-false, both, first-each, _▸_, end}
 use Rattle.can.specs.Number.{lowFirst}
 use Rattle.can.proofs.Number.{numbers}
-use Rattle.dictionary.specs.declared.Device.{Device}
-use Rattle.dictionary.specs.declared.table.Found.{Found}
-use Rattle.dictionary.specs.declared.table.Found.the-variants.{At, NoSubIndex, NoIndex}
+use Rattle.entries.specs.declared.Device.{Device}
+use Rattle.entries.specs.declared.table.Found.{Found}
+use Rattle.entries.specs.declared.table.Found.the-variants.{At, NoSubIndex, NoIndex}
+use Rattle.entries.specs.Table.{entries, rowAt, key, lookup}
 use Rattle.dictionary.specs.declared.read.Shown.the-variants.{Blank, Number}
-use Rattle.dictionary.specs.Table.{entries, rowAt, key, lookup}
 use Rattle.dictionary.specs.Reads.{noEntry, shownAt}
 use Rattle.dictionary.specs.Valid.{ValidDevice}
 use Rattle.dictionary.specs.Laws.{Takes}

@@ -2,10 +2,10 @@
 use Prim.Native.Nat.{ℕ, _<_}
 use mathlib.Core.Path.{_≡_}
 use lib.ListN.{length}
-use Rattle.dictionary.specs.declared.table.Found.{Found}
-use Rattle.dictionary.specs.declared.table.Found.the-variants.{At, NoSubIndex, NoIndex}
-use Rattle.dictionary.specs.Table.{table, lookup}
-use Rattle.dictionary.proofs.Laws.{laws}
+use Rattle.entries.specs.declared.table.Found.{Found}
+use Rattle.entries.specs.declared.table.Found.the-variants.{At, NoSubIndex, NoIndex}
+use Rattle.entries.specs.Table.{table, lookup}
+use Rattle.entries.proofs.Laws.{laws}
 
 pub stands : (i j p : ℕ) → lookup i j ≡ At p → p < length table
 stands i j p e = laws .finds i j .at p .0 e .0 .0

@@ -9,16 +9,16 @@ use lib.Dec.{eqb, ltb}
 use lib.ListN.{length, getD, replicate, getD-replicate, List·getD-map}
 use borrow.Author.Tests.{eqb-true, ltb-false}
 use Rattle.cases.proofs.Cases.{by, true-false}
-use Rattle.dictionary.specs.declared.Device.{Device}
-use Rattle.dictionary.specs.declared.table.Row.{Row}
-use Rattle.dictionary.specs.declared.table.Found.{Found}
-use Rattle.dictionary.specs.declared.table.Found.the-variants.{At, NoSubIndex, NoIndex}
+use Rattle.entries.specs.declared.Device.{Device}
+use Rattle.entries.specs.declared.table.Row.{Row}
+use Rattle.entries.specs.declared.table.Found.{Found}
+use Rattle.entries.specs.declared.table.Found.the-variants.{At, NoSubIndex, NoIndex}
+use Rattle.entries.specs.Table.{entries, table, noRow, keyOf, lookup}
+use Rattle.entries.proofs.Length.{rows-are}
 use Rattle.dictionary.specs.declared.read.Shown.{Shown}
 use Rattle.dictionary.specs.declared.read.Shown.the-variants.{Blank, Number}
-use Rattle.dictionary.specs.Table.{entries, table, noRow, keyOf, lookup}
 use Rattle.dictionary.specs.Reads.{shownAt}
 use Rattle.dictionary.specs.Accepted.{acceptsIn, isSignature, barred, refusal}
-use Rattle.dictionary.proofs.Columns.{rows-are}
 use Rattle.sdo.specs.Request.{indexOf, subOf, dataOf, aborting, reading, writing}
 use Rattle.sdo.specs.Service.{isBlank, numberIn, lengthOf, cutTo, dueOf, due}
 use Rattle.sdo.specs.Laws.{Told}

@@ -1,6 +1,6 @@
 -- 01's worked numbers, from the definitions, by computation.
 use mathlib.Core.Path.{refl}
-use Rattle.dictionary.specs.Table.{entries, table, lookup}
+use Rattle.entries.specs.Table.{entries, table, lookup}
 use Rattle.dictionary.specs.Reads.{shownAt}
 use Rattle.dictionary.specs.Writes.{written}
 use Rattle.sdo.specs.Service.{due}

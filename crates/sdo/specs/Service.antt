@@ -4,13 +4,13 @@ use lib.Dec.{eqb, ltb}
 use mathlib.Core.Bool.{Bool, true, false, not, _&&_, cond}
 use mathlib.Core.List.{List, [], _∷_}
 use Rattle.cases.specs.Cases.{firstOf}
-use Rattle.dictionary.specs.declared.Device.{Device}
-use Rattle.dictionary.specs.declared.table.Row.{Row}
-use Rattle.dictionary.specs.declared.table.Found.{Found}
-use Rattle.dictionary.specs.declared.table.Found.the-variants.{At, NoSubIndex, NoIndex}
+use Rattle.entries.specs.declared.Device.{Device}
+use Rattle.entries.specs.declared.table.Row.{Row}
+use Rattle.entries.specs.declared.table.Found.{Found}
+use Rattle.entries.specs.declared.table.Found.the-variants.{At, NoSubIndex, NoIndex}
+use Rattle.entries.specs.Table.{noRow, rowAt, width, isRw, accepted, key, lookup}
 use Rattle.dictionary.specs.declared.read.Shown.{Shown}
 use Rattle.dictionary.specs.declared.read.Shown.the-variants.{Blank, Number}
-use Rattle.dictionary.specs.Table.{noRow, rowAt, width, isRw, accepted, key, lookup}
 use Rattle.dictionary.specs.Reads.{shownAt}
 use Rattle.dictionary.specs.Accepted.{acceptsIn, isSignature, barred}
 use Rattle.sdo.specs.declared.reply.Served.{Served}

@@ -3,7 +3,7 @@ use Prim.Native.Nat.{ℕ}
 use mathlib.Core.Path.{_≡_}
 use mathlib.Core.Bool.{false}
 use mathlib.Core.List.{List, [], _∷_}
-use Rattle.dictionary.specs.declared.Device.{Device}
+use Rattle.entries.specs.declared.Device.{Device}
 use Rattle.dictionary.specs.Worked.{fresh, at, movedTo}
 use Rattle.sdo.specs.Reply.{carriedOut}
 use Rattle.sdo.specs.Service.{answer, due}

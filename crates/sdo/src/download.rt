@@ -5,8 +5,8 @@ ghost use Rattle.sdo.specs.Service.{cutTo};
 use crate::reply;
 use crate::reply::Served;
 use can::Bytes;
-use dictionary::Device;
-use dictionary::table::Row;
+use entries::Device;
+use entries::table::Row;
 
 const READ_ONLY: u32 = 0x0601_0002;
 
@@ -23,7 +23,7 @@ pub fn to_row(device: Device, bytes: Bytes, length: u8, content: u32, row: Row) 
     if code != 0 {
         return reply::abort(bytes, code);
     }
-    reply::confirm(bytes, dictionary::table::key(row), value)
+    reply::confirm(bytes, entries::table::key(row), value)
 }
 
 // Bytes past the entry's length are ignored.

@@ -2,7 +2,7 @@
 ghost use mathlib.Core.Path.{_≡_};
 ghost use Prim.Native.Nat.{_<_};
 ghost use lib.ListN.{length};
-ghost use Rattle.dictionary.specs.Table.{table};
+ghost use Rattle.entries.specs.Table.{table};
 ghost use Rattle.position.specs.Profile.{ValidProfile};
 ghost use Rattle.sdo.specs.Steps.{entryReply, replyTo};
 ghost use Rattle.sdo.specs.Service.{answer, due};
@@ -10,8 +10,8 @@ use crate::reply::Served;
 use crate::request::Access;
 use crate::request::Request;
 use can::Bytes;
-use dictionary::Device;
-use dictionary::table::Found;
+use entries::Device;
+use entries::table::Found;
 
 mod download;
 pub mod reply;
@@ -42,7 +42,7 @@ fn reply_to(device: Device, operational: bool, bytes: Bytes, request: Request) -
         return reply::abort(bytes, UNKNOWN_COMMAND);
     };
     let access = ask.access;
-    let found = dictionary::table::find(ask.index, ask.sub);
+    let found = entries::table::find(ask.index, ask.sub);
     match found {
         Found::NoIndex => reply::abort(bytes, NO_SUCH_INDEX),
         Found::NoSubIndex => reply::abort(bytes, NO_SUCH_SUB_INDEX),
@@ -60,7 +60,7 @@ fn entry_reply(
     requires { ⌜ (place < length table) × (ValidProfile (device .settings .profile)) ⌝ }
     ensures { λ r. ⌜ r ≡ entryReply device operational bytes place access ⌝ }
 {
-    let row = dictionary::table::row_at(place);
+    let row = entries::table::row_at(place);
     match access {
         Access::Read => {
             let width = row.2;

@@ -1,6 +1,6 @@
 -- `read::numbers` meets its contract: the array is the column of the table, row by row.
 use Rattle.position.proofs.Offset.{offset-passed}
-use Rattle.dictionary.specs.Table.{entries}
+use Rattle.entries.specs.Table.{entries}
 use borrow.Author.Needs.{needs}
 use Rattle.dictionary.proofs.read.numbers.Statement.{statement}
 use Rattle.dictionary.proofs.read.numbers.Tie as tie

@@ -1,7 +1,8 @@
 -- `read::read` meets its contract: blank and number are those of the entry that stands at the place.
+use Rattle.entries.proofs.Length.{rows-are}
 use Rattle.dictionary.specs.Reads.{shownAt}
 use Rattle.dictionary.specs.declared.read.Shown.the-variants.{Number}
-use Rattle.dictionary.proofs.Columns.{rows-are, number-of, blank-of}
+use Rattle.dictionary.proofs.Columns.{number-of, blank-of}
 use mathlib.Core.Path.{sym, ap, _∙_}
 use native.Mathlib.Omega.{arith}
 use borrow.Author.Needs.{needs}

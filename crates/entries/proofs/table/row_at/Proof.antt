@@ -1,9 +1,9 @@
 -- `table::row_at` meets its contract: the constant is the table of `specs/`, row by row.
 use mathlib.Core.Path.{refl}
 use borrow.Author.Needs.{needs}
-use Rattle.dictionary.specs.Table.{entries, table}
-use Rattle.dictionary.proofs.table.row_at.Statement.{statement}
-use Rattle.dictionary.proofs.table.row_at.Tie as tie
+use Rattle.entries.specs.Table.{entries, table}
+use Rattle.entries.proofs.table.row_at.Statement.{statement}
+use Rattle.entries.proofs.table.row_at.Tie as tie
 
 mul-result : tie.Need-mul-result
 unfolding table entries

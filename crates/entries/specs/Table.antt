@@ -7,13 +7,13 @@ use mathlib.Core.List.{List, [], _∷_, map}
 use Rattle.can.specs.Signed.{twos}
 use Rattle.position.specs.declared.Profile.{Profile}
 use Rattle.position.specs.Position.{position}
-use Rattle.dictionary.specs.declared.Communication.{Communication}
-use Rattle.dictionary.specs.declared.Device.{Device}
-use Rattle.dictionary.specs.declared.table.Row.{Row}
-use Rattle.dictionary.specs.declared.table.Accepted.{Accepted}
-use Rattle.dictionary.specs.declared.table.Accepted.the-variants.{Nothing, All, Only, Signature, Between, EmergencyIdentifier, PdoIdentifier, TransmissionType, OperatingParameters, BelowRange}
-use Rattle.dictionary.specs.declared.table.Found.{Found}
-use Rattle.dictionary.specs.declared.table.Found.the-variants.{At, NoSubIndex, NoIndex}
+use Rattle.entries.specs.declared.Communication.{Communication}
+use Rattle.entries.specs.declared.Device.{Device}
+use Rattle.entries.specs.declared.table.Row.{Row}
+use Rattle.entries.specs.declared.table.Accepted.{Accepted}
+use Rattle.entries.specs.declared.table.Accepted.the-variants.{Nothing, All, Only, Signature, Between, EmergencyIdentifier, PdoIdentifier, TransmissionType, OperatingParameters, BelowRange}
+use Rattle.entries.specs.declared.table.Found.{Found}
+use Rattle.entries.specs.declared.table.Found.the-variants.{At, NoSubIndex, NoIndex}
 
 -- A type is its number of bytes; S32 is two's complement.
 abbrev U8 : ℕ

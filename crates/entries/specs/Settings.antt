@@ -2,8 +2,8 @@
 use Prim.Native.Nat.{ℕ, _+_}
 use lib.IntN.{pos}
 use Rattle.position.specs.Profile.{fullRange}
-use Rattle.dictionary.specs.declared.Pdo.{Pdo}
-use Rattle.dictionary.specs.declared.Settings.{Settings}
+use Rattle.entries.specs.declared.Pdo.{Pdo}
+use Rattle.entries.specs.declared.Settings.{Settings}
 
 abbrev pub pdo : ℕ → ℕ → ℕ → Pdo
 pdo i t e = record { identifier = i; transmission = t; event = e }

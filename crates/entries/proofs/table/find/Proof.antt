@@ -5,12 +5,12 @@ use mathlib.Core.Logic.{⊎-elim}
 use native.Mathlib.Omega.{arith}
 use lib.ListN.{drop, length}
 use lib.Seq.{drop-length}
-use Rattle.dictionary.specs.declared.table.Found.the-variants.{NoIndex}
-use Rattle.dictionary.specs.Table.{table, lookup, lookupFrom}
-use Rattle.dictionary.proofs.Columns.{rows-are}
-use Rattle.dictionary.proofs.Lookup.{over, hit, passed, other}
-use Rattle.dictionary.proofs.table.find.Statement.{statement}
-use Rattle.dictionary.proofs.table.find.Tie as tie
+use Rattle.entries.specs.declared.table.Found.the-variants.{NoIndex}
+use Rattle.entries.specs.Table.{table, lookup, lookupFrom}
+use Rattle.entries.proofs.Length.{rows-are}
+use Rattle.entries.proofs.Lookup.{over, hit, passed, other}
+use Rattle.entries.proofs.table.find.Statement.{statement}
+use Rattle.entries.proofs.table.find.Tie as tie
 
 abbrev Inv-loop : tie.InvT-loop
 Inv-loop index sub seen₀ place₀ seen place =

@@ -2,7 +2,7 @@
 ghost use mathlib.Core.Path.{_≡_};
 ghost use Prim.Native.Nat.{_<_};
 ghost use lib.ListN.{getD, length};
-ghost use Rattle.dictionary.specs.Table.{table, noRow, keyOf, key as keyIn, lookup};
+ghost use Rattle.entries.specs.Table.{table, noRow, keyOf, key as keyIn, lookup};
 
 // The values that an entry accepts.
 pub enum Accepted {
@@ -46,6 +46,8 @@ pub const INHIBIT: u32 = 0x1015_00;
 pub const HEARTBEAT: u32 = 0x1017_00;
 
 pub const TPDO1_EVENT: u32 = 0x1800_05;
+
+pub const TPDO2_EVENT: u32 = 0x1801_05;
 
 pub const OPERATING: u32 = 0x6000_00;
 

@@ -8,11 +8,11 @@ use lib.Dec.{eqb}
 use lib.ListN.{length, getD, List·getD-map}
 use borrow.Author.Tests.{eqb-true, eqb-false}
 use Rattle.cases.proofs.Cases.{by}
-use Rattle.dictionary.specs.declared.table.Row.{Row}
-use Rattle.dictionary.specs.declared.table.Found.{Found}
-use Rattle.dictionary.specs.declared.table.Found.the-variants.{At, NoSubIndex, NoIndex}
-use Rattle.dictionary.specs.Table.{entries, table, noRow, noSub, lookupFrom, lookup}
-use Rattle.dictionary.specs.Laws.{Stands, Finds}
+use Rattle.entries.specs.declared.table.Row.{Row}
+use Rattle.entries.specs.declared.table.Found.{Found}
+use Rattle.entries.specs.declared.table.Found.the-variants.{At, NoSubIndex, NoIndex}
+use Rattle.entries.specs.Table.{entries, table, noRow, noSub, lookupFrom, lookup}
+use Rattle.entries.specs.Laws.{Stands, Finds}
 
 -- the row at k among l has the index i
 abbrev Has : List Row → ℕ → ℕ → Type 0

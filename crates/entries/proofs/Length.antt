@@ -1,0 +1,8 @@
+-- How many rows the table has. By computation. Assumes nothing.
+use mathlib.Core.Path.{_≡_, refl}
+use lib.ListN.{length}
+use Rattle.entries.specs.Table.{entries, table}
+
+pub rows-are : length table ≡ 44
+unfolding table entries
+rows-are = refl

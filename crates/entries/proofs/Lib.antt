@@ -1,0 +1,4 @@
+pub mod Length
+pub mod Lookup
+pub mod Found
+pub mod Laws
