@@ -1,3 +1,4 @@
+-- `heard` meets its contract: each return by the identifier that led there.
 use Rattle.head.proofs.FrameTests.{unheard, commands, synchronises, asks, not-meant}
 use borrow.Author.Needs.{needs}
 use Rattle.head.proofs.heard.Statement.{statement}

@@ -1,3 +1,4 @@
+-- `power_up` meets its promise: the node number taken, or refused.
 use Rattle.head.proofs.CallTests.{powers-up, powers-up-refused}
 use borrow.Author.Needs.{needs}
 use Rattle.head.proofs.power_up.Statement.{statement}

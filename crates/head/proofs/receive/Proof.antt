@@ -1,3 +1,4 @@
+-- `receive` meets its promise: the frame refused, or heard.
 use Rattle.head.proofs.CallTests.{receives}
 use Rattle.head.proofs.FrameTests.{refused, unrefused}
 use mathlib.Core.Path.{_∙_}

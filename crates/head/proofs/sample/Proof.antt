@@ -1,3 +1,4 @@
+-- `sample` meets its promise: missing, refused, or taken.
 use Rattle.head.proofs.CallTests.{loses, refuses, takes}
 use borrow.Author.Needs.{needs}
 use Rattle.head.proofs.sample.Statement.{statement}

@@ -1,3 +1,4 @@
+-- `slot` meets its promise: the frame of the first, and the head without it.
 use borrow.Author.Needs.{needs}
 use Rattle.head.proofs.CallTests.{sends-first}
 use Rattle.head.proofs.slot.Statement.{statement}

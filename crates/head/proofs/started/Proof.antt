@@ -1,3 +1,4 @@
+-- `started` meets its contract, by those of its parts.
 use borrow.Author.Needs.{needs}
 use Rattle.head.proofs.started.Statement.{statement}
 use Rattle.head.proofs.started.Tie as tie

@@ -1,3 +1,4 @@
+-- `tick` meets its promise: timers stand in Initialising, and else go on.
 use Rattle.head.proofs.CallTests.{ticks-idle, ticks-on}
 use mathlib.Core.Path.{sym, _∙_}
 use borrow.Author.Needs.{needs}

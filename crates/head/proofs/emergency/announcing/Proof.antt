@@ -1,3 +1,4 @@
+-- `emergency::announcing` meets its contract, by that of `inhibit_ticks`.
 use borrow.Author.Needs.{needs}
 use Rattle.head.proofs.emergency.announcing.Statement.{statement}
 use Rattle.head.proofs.emergency.announcing.Tie as tie

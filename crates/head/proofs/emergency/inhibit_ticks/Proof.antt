@@ -1,3 +1,4 @@
+-- `emergency::inhibit_ticks` meets its contract: none for 0, else its ticks.
 use borrow.Author.Tests.{eq-eqb, ne-eqb}
 use borrow.Author.Needs.{needs}
 use Rattle.head.proofs.emergency.inhibit_ticks.Statement.{statement}

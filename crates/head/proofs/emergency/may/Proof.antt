@@ -1,3 +1,4 @@
+-- `emergency::may` meets its contract, by its tests.
 use borrow.Author.Needs.{needs}
 use Rattle.head.proofs.emergency.may.Statement.{statement}
 use Rattle.head.proofs.emergency.may.Tie as tie

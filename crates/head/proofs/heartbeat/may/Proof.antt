@@ -1,3 +1,4 @@
+-- `heartbeat::may` meets its contract, by its tests.
 use borrow.Author.Needs.{needs}
 use Rattle.head.proofs.heartbeat.may.Statement.{statement}
 use Rattle.head.proofs.heartbeat.may.Tie as tie

@@ -1,3 +1,4 @@
+-- `nmt::booted` meets its contract, by that of `at_rest`.
 use borrow.Author.Needs.{needs}
 use Rattle.head.proofs.nmt.booted.Statement.{statement}
 use Rattle.head.proofs.nmt.booted.Tie as tie

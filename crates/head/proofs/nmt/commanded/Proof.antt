@@ -1,3 +1,4 @@
+-- `nmt::commanded` meets its contract: not addressed, or each return by the command that led there.
 use Rattle.head.specs.States.{resetCommand, byteOf}
 use Rattle.head.proofs.CommandTests.{enters, unaddressed, obeys}
 use Rattle.head.specs.States.{operational, stopped, preOperational, toEnter}

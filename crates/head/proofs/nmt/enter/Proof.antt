@@ -1,3 +1,4 @@
+-- `nmt::enter` meets its contract: the present state, or another.
 use borrow.Author.Needs.{needs}
 use Rattle.head.proofs.nmt.enter.Statement.{statement}
 use Rattle.head.proofs.nmt.enter.Tie as tie

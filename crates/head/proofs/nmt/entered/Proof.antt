@@ -1,3 +1,4 @@
+-- `nmt::entered` meets its contract, field by field.
 use borrow.Author.Needs.{needs}
 use Rattle.head.proofs.nmt.entered.Statement.{statement}
 use Rattle.head.proofs.nmt.entered.Tie as tie

@@ -1,3 +1,4 @@
+-- `nmt::entry_due` meets its contract, flag by flag.
 use borrow.Author.Needs.{needs}
 use Rattle.head.proofs.nmt.entry_due.Statement.{statement}
 use Rattle.head.proofs.nmt.entry_due.Tie as tie

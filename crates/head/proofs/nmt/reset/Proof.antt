@@ -1,3 +1,4 @@
+-- `nmt::reset` meets its contract, by those of `reset_to` and `settled`.
 use borrow.Author.Needs.{needs}
 use Rattle.head.proofs.nmt.reset.Statement.{statement}
 use Rattle.head.proofs.nmt.reset.Tie as tie

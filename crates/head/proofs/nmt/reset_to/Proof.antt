@@ -1,3 +1,4 @@
+-- `nmt::reset_to` meets its contract, field by field.
 use borrow.Author.Needs.{needs}
 use Rattle.head.proofs.nmt.reset_to.Statement.{statement}
 use Rattle.head.proofs.nmt.reset_to.Tie as tie

@@ -1,3 +1,4 @@
+-- `nmt::restart` meets its contract: each return by the command that led there.
 use borrow.Author.Needs.{needs}
 use Rattle.head.proofs.CommandTests.{none-acts, resets, reset-as}
 use Rattle.head.specs.States.{ofNode, ofCommunication, toReset}

@@ -1,3 +1,4 @@
+-- `sending::after` meets its contract: the boot-up frame, the emergency, or another.
 use Rattle.head.proofs.SlotTests.{boots, sends, passes, core-as}
 use Rattle.head.specs.WaitingLine.{emergency}
 use Rattle.head.specs.Acts.{boot, send}

@@ -1,3 +1,4 @@
+-- `sending::frame` meets its contract: each return by the kind that led there.
 use Rattle.head.proofs.SlotTests.{boot-frame, sends, idles, sends-position, frame-as}
 use Rattle.head.specs.Steps.{pdoOf}
 use Rattle.head.specs.WaitingLine.{emergency, sdoReply, heartbeat, tpdo}

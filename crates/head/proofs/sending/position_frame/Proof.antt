@@ -1,3 +1,4 @@
+-- `sending::position_frame` meets its contract, of either PDO.
 use borrow.Author.Tests.{eq-eqb, ne-eqb}
 use borrow.Author.Needs.{needs}
 use Rattle.head.proofs.sending.position_frame.Statement.{statement}

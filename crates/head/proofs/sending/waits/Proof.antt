@@ -1,3 +1,4 @@
+-- `sending::waits` meets its contract, by its tests.
 use borrow.Author.Needs.{needs}
 use Rattle.head.proofs.sending.waits.Statement.{statement}
 use Rattle.head.proofs.sending.waits.Tie as tie

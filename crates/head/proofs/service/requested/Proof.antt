@@ -1,3 +1,4 @@
+-- `service::requested` meets its contract: not to be served, or served; what is confirmed fits its entry.
 use Rattle.head.proofs.RequestTests.{taken-answer}
 use Rattle.head.proofs.RequestTests.{unrequested, requests}
 use borrow.Author.Tests.{not-true, not-false}

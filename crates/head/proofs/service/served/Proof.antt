@@ -1,3 +1,4 @@
+-- `service::served` meets its contract: each arm by the effect that led there.
 use Rattle.head.proofs.RequestTests.{unserved, replies-so, writes-so}
 use borrow.Author.Needs.{needs}
 use Rattle.head.proofs.service.served.Statement.{statement}

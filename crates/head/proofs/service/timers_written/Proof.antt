@@ -1,3 +1,4 @@
+-- `service::timers_written` meets its contract, field by field.
 use borrow.Author.Needs.{needs}
 use Rattle.head.proofs.service.timers_written.Statement.{statement}
 use Rattle.head.proofs.service.timers_written.Tie as tie

@@ -1,3 +1,4 @@
+-- `service::written` meets its contract, by those of `write` and `timers_written`.
 use borrow.Author.Needs.{needs}
 use Rattle.head.proofs.service.written.Statement.{statement}
 use Rattle.head.proofs.service.written.Tie as tie

@@ -1,3 +1,4 @@
+-- `settle::join_those` meets its contract: kind after kind.
 use Rattle.waiting.specs.Line.{order}
 use Rattle.head.specs.WaitingLine.{flag, kindOf}
 use Rattle.head.proofs.Settling.{joins-those}

@@ -1,3 +1,4 @@
+-- `settle::mays` meets its contract, flag by flag.
 use borrow.Author.Needs.{needs}
 use Rattle.head.proofs.settle.mays.Statement.{statement}
 use Rattle.head.proofs.settle.mays.Tie as tie

@@ -1,3 +1,4 @@
+-- `settle::settle` meets its contract: those that go, then those that come.
 use borrow.Author.Needs.{needs}
 use Rattle.head.proofs.settle.settle.Statement.{statement}
 use Rattle.head.proofs.settle.settle.Tie as tie

@@ -1,3 +1,4 @@
+-- `settle::settled` meets its contract, by those of `mays` and `settle`.
 use Rattle.head.specs.Acts.{settledTo}
 use borrow.Author.Needs.{needs}
 use Rattle.head.proofs.settle.settled.Statement.{statement}

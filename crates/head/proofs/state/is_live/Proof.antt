@@ -1,3 +1,4 @@
+-- `state::is_live` meets its contract, by its tests.
 use borrow.Author.Needs.{needs}
 use Rattle.head.proofs.state.is_live.Statement.{statement}
 use Rattle.head.proofs.state.is_live.Tie as tie

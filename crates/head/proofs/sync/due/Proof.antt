@@ -1,3 +1,4 @@
+-- `sync::due` meets its contract, flag by flag.
 use borrow.Author.Needs.{needs}
 use Rattle.head.proofs.sync.due.Statement.{statement}
 use Rattle.head.proofs.sync.due.Tie as tie

@@ -1,3 +1,4 @@
+-- `sync::synced` meets its contract, field by field.
 use borrow.Author.Needs.{needs}
 use Rattle.head.proofs.sync.synced.Statement.{statement}
 use Rattle.head.proofs.sync.synced.Tie as tie

@@ -1,3 +1,4 @@
+-- `sync::synchronised` meets its contract: no SYNC for this head, or one that counts.
 use Rattle.head.proofs.CommandTests.{no-sync, syncs}
 use borrow.Author.Tests.{not-true, not-false}
 use borrow.Author.Needs.{needs}

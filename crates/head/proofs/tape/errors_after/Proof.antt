@@ -1,3 +1,4 @@
+-- `tape::errors_after` meets its contract: one more, or as before.
 use Rattle.cases.proofs.Cases.{both}
 use borrow.Author.Tests.{ltb-true}
 use native.Mathlib.Numerals.{add-one}

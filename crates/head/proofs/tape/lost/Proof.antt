@@ -1,3 +1,4 @@
+-- `tape::lost` meets its contract, by those of `errors_after` and `settled`.
 use Rattle.head.specs.Acts.{act}
 use borrow.Author.Needs.{needs}
 use Rattle.head.proofs.tape.lost.Statement.{statement}

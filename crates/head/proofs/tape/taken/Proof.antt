@@ -1,3 +1,4 @@
+-- `tape::taken` meets its contract, by that of `settled`.
 use Rattle.head.specs.Acts.{act}
 use borrow.Author.Needs.{needs}
 use Rattle.head.proofs.tape.taken.Statement.{statement}

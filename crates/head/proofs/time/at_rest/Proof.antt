@@ -1,3 +1,4 @@
+-- `time::at_rest` meets its contract, field by field.
 use borrow.Author.Needs.{needs}
 use Rattle.head.proofs.time.at_rest.Statement.{statement}
 use Rattle.head.proofs.time.at_rest.Tie as tie

@@ -1,3 +1,4 @@
+-- `time::completes` meets its contract: no period, or one.
 use mathlib.Core.Path.{sym}
 use lib.Dec.{eqb·suc-zero}
 use Rattle.head.proofs.Periods.{last}

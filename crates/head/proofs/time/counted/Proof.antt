@@ -1,3 +1,4 @@
+-- `time::counted` meets its contract: it goes on below its period, and else begins again.
 use Rattle.head.proofs.Periods.{counts-on, begins-again}
 use native.Mathlib.Omega.{arith}
 use borrow.Author.Needs.{needs}

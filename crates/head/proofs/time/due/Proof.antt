@@ -1,3 +1,4 @@
+-- `time::due` meets its contract, flag by flag.
 use borrow.Author.Needs.{needs}
 use Rattle.head.proofs.time.due.Statement.{statement}
 use Rattle.head.proofs.time.due.Tie as tie

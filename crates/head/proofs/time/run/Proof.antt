@@ -1,3 +1,4 @@
+-- `time::run` meets its contract: it runs, or stands.
 use borrow.Author.Needs.{needs}
 use Rattle.head.proofs.time.run.Statement.{statement}
 use Rattle.head.proofs.time.run.Tie as tie

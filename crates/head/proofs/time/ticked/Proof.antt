@@ -1,3 +1,4 @@
+-- `time::ticked` meets its contract, field by field.
 use borrow.Author.Needs.{needs}
 use Rattle.head.proofs.time.ticked.Statement.{statement}
 use Rattle.head.proofs.time.ticked.Tie as tie

@@ -1,3 +1,4 @@
+-- `tpdo::event_due` meets its contract, by its tests.
 use borrow.Author.Needs.{needs}
 use Rattle.head.proofs.tpdo.event_due.Statement.{statement}
 use Rattle.head.proofs.tpdo.event_due.Tie as tie

@@ -1,3 +1,4 @@
+-- `tpdo::may` meets its contract, by its tests.
 use borrow.Author.Needs.{needs}
 use Rattle.head.proofs.tpdo.may.Statement.{statement}
 use Rattle.head.proofs.tpdo.may.Tie as tie

@@ -1,3 +1,4 @@
+-- `tpdo::sync_due` meets its contract, by its tests.
 use borrow.Author.Needs.{needs}
 use Rattle.head.proofs.tpdo.sync_due.Statement.{statement}
 use Rattle.head.proofs.tpdo.sync_due.Tie as tie

@@ -1,3 +1,4 @@
+-- `tpdo::synced` meets its contract: counted, or left.
 use borrow.Author.Needs.{needs}
 use Rattle.head.proofs.tpdo.synced.Statement.{statement}
 use Rattle.head.proofs.tpdo.synced.Tie as tie

@@ -1,3 +1,4 @@
+-- `tpdo::ticked` meets its contract, by that of `counted`.
 use borrow.Author.Needs.{needs}
 use Rattle.head.proofs.tpdo.ticked.Statement.{statement}
 use Rattle.head.proofs.tpdo.ticked.Tie as tie

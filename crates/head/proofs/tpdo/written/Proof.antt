@@ -1,3 +1,4 @@
+-- `tpdo::written` meets its contract, field by field.
 use borrow.Author.Needs.{needs}
 use Rattle.head.proofs.tpdo.written.Statement.{statement}
 use Rattle.head.proofs.tpdo.written.Tie as tie
