@@ -1,5 +1,6 @@
 -- `Laws` of specs/Laws.antt. Assumes nothing.
 use native.Mathlib.Omega.{arith}
+use lib.ListN.{length-take}
 use Rattle.text.specs.Printed.{frameText, noneText, refusalText}
 use Rattle.text.specs.Laws.{Laws}
 use Rattle.text.proofs.Growing.{push-line, held-line, says-line, handed-lines}
@@ -13,7 +14,7 @@ laws =
       handed-lines = handed-lines;
       push-line = push-line;
       held-line = held-line;
-      held-frame = λ f h. held-line (frameText f) (frame-short f h);
+      held-frame = λ f h. held-line (frameText f) (frame-short f (omega (arith, length-take (f .length) (f .bytes))));
       held-none = held-line noneText (omega arith);
       held-refusal = λ n. held-line (refusalText n) (omega arith);
       one-line = one-line;

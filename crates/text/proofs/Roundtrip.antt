@@ -153,8 +153,6 @@ pairs-length : (bs : List ℕ) → length (pairsText bs) ≡ 3 * length bs
 pairs-length [] = refl
 pairs-length (b ∷ bs) = omega (arith, pairs-length bs)
 
-pub frame-short : (f : Sent) → length (f .bytes) ≡ 8 → length (frameText f) ≤ longest
+pub frame-short : (f : Sent) → length (take (f .length) (f .bytes)) ≤ 8 → length (frameText f) ≤ longest
 unfolding frameText
-frame-short f h =
-    let few = length-take (f .length) (f .bytes) in
-    rw (length-append, length-append, pairs-length) (omega arith)
+frame-short f h = rw (length-append, length-append, pairs-length) (omega arith)

@@ -1,0 +1,66 @@
+//! The session program: standard input to standard output, nothing else.
+ghost use Prim.Native.Nat.{_≤_};
+ghost use lib.ListN.{length};
+ghost use Rattle.head.specs.Valid.{Valid};
+use libc::STDIN_FILENO;
+use libc::STDOUT_FILENO;
+use text::line;
+use transcript::Session;
+
+// The most that 4,096 bytes of input print: 64 for each.
+const ROOM: usize = 262_144;
+
+struct After {
+    more: bool,
+    session: Session,
+}
+
+// Reads once, prints what came of it before it waits again, and says whether to go on.
+fn turn(session: Session, out: &mut [u8]) -> After
+    requires { ⌜ Valid (session .head) ⌝ }
+    requires { ⌜ 262144 ≤ length (now out) ⌝ }
+    ensures { λ r. ⌜ Valid (r .session .head) ⌝ }
+{
+    let mut input = io::buffer();
+    let got = libc::read(STDIN_FILENO, &mut input);
+    if got <= 0 {
+        finish(session);
+        return After {
+            more: false,
+            session,
+        };
+    }
+    let count = io::count(got, &input);
+    let done = transcript::chunk(session, &input[..count], out);
+    let len = done.len;
+    let more = io::write_all(STDOUT_FILENO, &out[..len]);
+    let next = done.session;
+    After {
+        more,
+        session: next,
+    }
+}
+
+// The end of the input ends a last line.
+fn finish(session: Session)
+    requires { ⌜ Valid (session .head) ⌝ }
+{
+    let text = transcript::close(session);
+    let count = line::kept(text);
+    let bytes = text.bytes;
+    io::write_all(STDOUT_FILENO, &bytes[..count]);
+}
+
+// A proved loop ends, and nothing says that the input does: the turns are counted down from a number that no run uses up.
+fn main() {
+    let mut out = [0u8; ROOM];
+    let mut session = transcript::start();
+    let mut more = true;
+    let mut turns = u64::MAX;
+    while more & (0 < turns) {
+        let after = turn(session, &mut out);
+        session = after.session;
+        more = after.more;
+        turns -= 1;
+    }
+}

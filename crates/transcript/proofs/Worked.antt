@@ -1,0 +1,14 @@
+-- 01's session, from the definitions, by computation.
+use mathlib.Core.Path.{refl}
+use Rattle.entries.specs.Table.{entries, table, lookup}
+use Rattle.dictionary.specs.Reads.{shownAt}
+use Rattle.dictionary.specs.Writes.{written}
+use Rattle.sdo.specs.Service.{due}
+use Rattle.head.specs.Acts.{settledTo, act}
+use Rattle.text.specs.Grammar.{parsed}
+use Rattle.text.specs.Printed.{frameText, refusalText}
+use Rattle.transcript.specs.Worked.{Worked}
+
+pub worked : Worked
+unfolding entries table lookup shownAt written due act settledTo parsed frameText refusalText
+worked = record { printed = refl; refusals = refl }

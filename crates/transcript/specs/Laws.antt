@@ -1,0 +1,42 @@
+-- What holds of every input: `Laws`. Byte by byte the calls print what 01 has line by line, wherever the input is cut into chunks,
+-- each leaves a valid head, and no second outcome satisfies what a call promises.
+use Prim.Native.Nat.{ℕ, _<_}
+use mathlib.Core.Path.{_≡_}
+use mathlib.Core.List.{List, _++_}
+use lib.ListN.{length}
+use Rattle.head.specs.declared.Head.{Head}
+use Rattle.head.specs.Valid.{Valid}
+use Rattle.head.specs.Laws.{OneOutcome}
+use Rattle.text.specs.Lines.{lines, longest, lineOf, blank, held}
+use Rattle.text.specs.declared.line.Line.{Line}
+use Rattle.transcript.specs.declared.Session.{Session}
+use Rattle.transcript.specs.declared.Done.{Done}
+use Rattle.transcript.specs.Commands.{refused}
+use Rattle.transcript.specs.Talk.{reply, talk, transcript}
+use Rattle.transcript.specs.Bytes.{replyOf, answered, session, started, fed, after, prints, closing}
+use Rattle.transcript.specs.Promised.{Starts, Answers, Feeds, Chunks, Closes}
+
+pub record Laws : Type 0 where
+  -- what the bytes of an input print, one after the other, and its end: each line of the input in turn
+  pub whole : (h : Head) (input : List ℕ) → prints (session h blank) input ++ held (closing (after (session h blank) input)) ≡ talk h (lines input)
+  -- and so of the program
+  pub program : (input : List ℕ) → prints started input ++ held (closing (after started input)) ≡ transcript input
+  -- a gathered line is answered as the line is
+  pub line-answered : (h : Head) (l : List ℕ) → answered h (lineOf l) ≡ replyOf (reply h l)
+  -- An input may be cut into chunks anywhere.
+  pub cut : (s : Session) (a b : List ℕ) → after s (a ++ b) ≡ after (after s a) b
+  pub cut-prints : (s : Session) (a b : List ℕ) → prints s (a ++ b) ≡ prints s a ++ prints (after s a) b
+  -- 9: lines of at most 64 bytes; a longer one is not of its form: prints E 9; head unchanged
+  pub too-long : (h : Head) (l : List ℕ) → longest < length l → reply h l ≡ refused 9 h
+  -- power-up and each call are proved to leave a valid head
+  pub start-valid : Valid (started .head)
+  pub line-valid : (h : Head) (l : List ℕ) → Valid h → Valid (reply h l .head)
+  pub answer-valid : (h : Head) (r : Line) → Valid h → Valid (answered h r .head)
+  pub byte-valid : (s : Session) (b : ℕ) → Valid (s .head) → Valid (fed s b .session .head)
+  pub input-valid : (s : Session) (bs : List ℕ) → Valid (s .head) → Valid (after s bs .head)
+  -- For every input, refused ones too, a public call's promise determines the answer and the head afterwards.
+  pub one-start : OneOutcome Starts
+  pub one-answer : (h : Head) (l : Line) → OneOutcome (Answers h l)
+  pub one-feed : (s : Session) (b : ℕ) → OneOutcome (Feeds s b)
+  pub one-chunk : (s : Session) (input out : List ℕ) → OneOutcome (λ (r : Done × List ℕ). Chunks s input out (r .0) (r .1))
+  pub one-close : (s : Session) → OneOutcome (Closes s)

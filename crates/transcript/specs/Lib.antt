@@ -1,0 +1,6 @@
+pub mod Commands
+pub mod Talk
+pub mod Bytes
+pub mod Promised
+pub mod Laws
+pub mod Worked
