@@ -6,8 +6,9 @@ use Rattle.head.specs.Laws.{OneOutcome}
 use Rattle.text.specs.Grammar.{says}
 use Rattle.transcript.specs.Bytes.{answered, started, fed}
 use Rattle.transcript.specs.Laws.{Laws}
+use Rattle.transcript.proofs.Refusals.{identifier-refused, length-refused, sample-refused, malformed-refused, too-long}
 use Rattle.transcript.proofs.Valid.{valid-obeyed, valid-answered, valid-fed, valid-after, valid-start}
-use Rattle.transcript.proofs.Whole.{whole, line-answered, cut, cut-prints, too-long}
+use Rattle.transcript.proofs.Whole.{whole, line-answered, cut, cut-prints}
 
 one-outcome : {A : Type 0} (due : A) (Left : A → Type 0) → OneOutcome (λ r. (r ≡ due) × Left r)
 one-outcome due Left x y p q = p .0 ∙ sym (q .0)
@@ -20,6 +21,10 @@ laws =
       line-answered = line-answered;
       cut = cut;
       cut-prints = cut-prints;
+      identifier-refused = identifier-refused;
+      length-refused = length-refused;
+      sample-refused = sample-refused;
+      malformed-refused = malformed-refused;
       too-long = too-long;
       start-valid = valid-start;
       line-valid = λ h l. valid-obeyed h (says l .bytes) (says l .command);

@@ -6,5 +6,6 @@ pub mod Copying
 pub mod Feeding
 pub mod Short
 pub mod Whole
+pub mod Refusals
 pub mod Laws
 pub mod Worked

@@ -1,20 +1,17 @@
 -- The bytes of an input, taken one after the other, print what its lines print one after the other.
-use Prim.Native.Nat.{ℕ, _<_}
+use Prim.Native.Nat.{ℕ}
 use Prim.Native.Char.{code}
 use mathlib.Core.Path.{_≡_, refl, _∙_}
 use mathlib.Core.Bool.{true, false}
 use mathlib.Core.List.{List, [], _∷_, _++_, map, append-assoc, append-nil}
 use lib.Dec.{eqb}
-use lib.ListN.{length}
-use borrow.Author.Tests.{lt-ltb}
 use Rattle.cases.proofs.Cases.{test}
 use Rattle.head.specs.declared.Head.{Head}
-use Rattle.text.specs.Lines.{lines, longest, lineOf, blank, held, pushed, handed}
+use Rattle.text.specs.Lines.{lines, lineOf, blank, held, pushed, handed}
 use Rattle.text.specs.Grammar.{says}
 use Rattle.text.specs.declared.line.Line.{Line}
 use Rattle.text.proofs.Laws.{laws}
 use Rattle.transcript.specs.declared.Session.{Session}
-use Rattle.transcript.specs.Commands.{refused}
 use Rattle.transcript.specs.Talk.{reply, talk}
 use Rattle.transcript.specs.Bytes.{replyOf, answered, session, fed, after, prints, closing}
 use Rattle.transcript.proofs.Ways.{fedOf}
@@ -78,6 +75,3 @@ cut s (x ∷ a) b = cut (fed s x .session) a b
 pub cut-prints : (s : Session) (a b : List ℕ) → prints s (a ++ b) ≡ prints s a ++ prints (after s a) b
 cut-prints s [] b = refl
 cut-prints s (x ∷ a) b = rw (cut-prints (fed s x .session) a b, append-assoc)
-
-pub too-long : (h : Head) (l : List ℕ) → longest < length l → reply h l ≡ refused 9 h
-too-long h l b = rw (lt-ltb longest (length l) b)

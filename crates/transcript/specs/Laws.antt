@@ -1,6 +1,6 @@
 -- What holds of every input: `Laws`. Byte by byte the calls print what 01 has line by line, wherever the input is cut into chunks,
 -- each leaves a valid head, and no second outcome satisfies what a call promises.
-use Prim.Native.Nat.{ℕ, _<_}
+use Prim.Native.Nat.{ℕ, _≤_, _<_}
 use mathlib.Core.Path.{_≡_}
 use mathlib.Core.List.{List, _++_}
 use lib.ListN.{length}
@@ -8,10 +8,12 @@ use Rattle.head.specs.declared.Head.{Head}
 use Rattle.head.specs.Valid.{Valid}
 use Rattle.head.specs.Laws.{OneOutcome}
 use Rattle.text.specs.Lines.{lines, longest, lineOf, blank, held}
+use Rattle.text.specs.Grammar.{says}
+use Rattle.text.specs.declared.Command.the-variants.{Malformed, Frame, Sample}
 use Rattle.text.specs.declared.line.Line.{Line}
 use Rattle.transcript.specs.declared.Session.{Session}
 use Rattle.transcript.specs.declared.Done.{Done}
-use Rattle.transcript.specs.Commands.{refused}
+use Rattle.transcript.specs.Commands.{refused, obeyed}
 use Rattle.transcript.specs.Talk.{reply, talk, transcript}
 use Rattle.transcript.specs.Bytes.{replyOf, answered, session, started, fed, after, prints, closing}
 use Rattle.transcript.specs.Promised.{Starts, Answers, Feeds, Chunks, Closes}
@@ -26,7 +28,14 @@ pub record Laws : Type 0 where
   -- An input may be cut into chunks anywhere.
   pub cut : (s : Session) (a b : List ℕ) → after s (a ++ b) ≡ after (after s a) b
   pub cut-prints : (s : Session) (a b : List ℕ) → prints s (a ++ b) ≡ prints s a ++ prints (after s a) b
-  -- 9: lines of at most 64 bytes; a longer one is not of its form: prints E 9; head unchanged
+  -- 1: an 11-bit identifier above 7FFh: the number; head unchanged
+  pub identifier-refused : (h : Head) (bytes : List ℕ) (id len : ℕ) → 0x7FF < id → obeyed h bytes (Frame id len) ≡ refused 1 h
+  -- 2: frame length above 8 (1 comes first)
+  pub length-refused : (h : Head) (bytes : List ℕ) (id len : ℕ) → id ≤ 0x7FF → 8 < len → obeyed h bytes (Frame id len) ≡ refused 2 h
+  -- 3: raw sample above 1,048,575, of any size
+  pub sample-refused : (h : Head) (bytes : List ℕ) (r : ℕ) → 1048575 < r → obeyed h bytes (Sample r) ≡ refused 3 h
+  -- 9: a line not of its form, and one of more than 64 bytes: prints E 9; head unchanged
+  pub malformed-refused : (h : Head) (l : List ℕ) → says l .command ≡ Malformed → reply h l ≡ refused 9 h
   pub too-long : (h : Head) (l : List ℕ) → longest < length l → reply h l ≡ refused 9 h
   -- power-up and each call are proved to leave a valid head
   pub start-valid : Valid (started .head)

@@ -129,7 +129,7 @@ fn put(out: &mut [u8], at: usize, text: Line) -> usize
     at + count
 }
 
-// The end of the input: what a last line prints that it ends.
+// The end of the input ends a last line; what that prints.
 pub fn close(session: Session) -> Line
     requires { ⌜ Valid (session .head) ⌝ }
     ensures { λ r. ⌜ Closes session r ⌝ }
