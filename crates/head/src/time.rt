@@ -13,7 +13,7 @@ use crate::tpdo;
 use entries::Communication;
 use entries::Pdo;
 
-// One more of a period; at its end the count begins again.
+// One more of a period; at its end the count begins again. The first test keeps the sum from running over.
 pub fn counted(period: u32, count: u32) -> u32
     ensures { λ r. ⌜ r ≡ countedOf period count ⌝ }
 {
