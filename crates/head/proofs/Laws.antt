@@ -22,6 +22,7 @@ use Rattle.head.proofs.Nothing.{step-nothing}
 use Rattle.head.proofs.Valid.{valid-step, valid-started}
 use Rattle.head.proofs.Refusals.{passes, fails, first-passes, second-passes, neither-passes, power-refusal, frame-refused, sample-refused, node-refused, node-taken}
 use Rattle.head.proofs.Unmeant.{unmeant}
+use Rattle.head.proofs.Meant.{enters, resets, takes-raw, loses, leaves, reply-fixed, announces, inhibit-runs}
 use Rattle.head.proofs.Slots.{answers, boots, none-waits, sends-first, none-exactly}
 
 powered-valid : (n : ℕ) (i : Identity) → ValidIdentity i → Valid (poweredUp n i .head)
@@ -67,12 +68,20 @@ laws =
       node-refused = node-refused;
       node-taken = node-taken;
       not-meant = λ h f v m. step-nothing h (receive f) refl (unmeant h f v m);
+      enters = enters;
+      resets = resets;
+      takes-raw = takes-raw;
+      loses = loses;
       timers-stand = λ h i. step-nothing h tick refl (rw i);
       only-boot-up = λ h v i. let s = answers h (boots h i) in (none-waits h v i, s .0, s .1);
       boots = λ h i. ap (λ a. act true h a .core .nmt) (boots h i);
       once = λ h v. v .line .kinds;
       sends-first = λ h v i k e. answers h (sends-first h v i k e);
+      leaves = leaves;
+      reply-fixed = λ h c v w. reply-fixed h v w c;
       emergency-exactly = emergency-exactly;
+      announces = announces;
+      inhibit-runs = inhibit-runs;
       waits-rightly = λ h v. v .only;
       one-power-up = λ n i. one-outcome (poweredUp n i) (λ r. Valid (r .head));
       one-receive = λ h f. one-outcome (received h f) (λ r. Valid (r .head));

@@ -10,6 +10,7 @@ pub mod Valid
 pub mod Refusals
 pub mod Unmeant
 pub mod Slots
+pub mod Meant
 pub mod Laws
 pub mod Worked
 pub mod Periods

@@ -14,8 +14,9 @@ use Rattle.head.specs.declared.settle.Flags.{Flags}
 use Rattle.head.specs.States.{one, two, isInitialising, node}
 use Rattle.head.specs.Acts.{Act, boot, idle, send, sending, acted, moments, emergencyOnly, settledTo, act, frameBy}
 use Rattle.head.specs.Calls.{sentBy, isFrame, frameIn}
-use Rattle.head.specs.WaitingLine.{Kind, emergency, sdoReply, heartbeat, tpdo, number, kindOf, frame}
+use Rattle.head.specs.WaitingLine.{Kind, tpdo, number, kindOf, frame}
 use Rattle.head.specs.Steps.{pdoOf}
+use Rattle.head.proofs.Slots.{sent-by}
 
 module _ (c : Core) (k : ℕ) where
   -- what holds of each act of a slot holds of what it does
@@ -34,11 +35,7 @@ module _ (c : Core) (k : ℕ) where
 
   module _ (running : isInitialising c ≡ false) where
     pub sends : (j : Kind) → k ≡ number j → sentBy c k ≡ send j
-    sends emergency i = rw (running, i)
-    sends sdoReply i = rw (running, i)
-    sends heartbeat i = rw (running, i)
-    sends (tpdo one) i = rw (running, i)
-    sends (tpdo two) i = rw (running, i)
+    sends j i = rw i (sent-by c j running)
 
     pub idles : k ≡ 0 → sentBy c k ≡ idle
     idles i = rw (running, i)

@@ -39,7 +39,7 @@ none-of : (ws : List ℕ) → Kinds places ws → ((k : Kind) → has (number k)
 none-of [] h n = refl
 none-of (x ∷ xs) h n = absurd (n (kindOf x) (rw (eq-eqb x (number (kindOf x)) (sym (number-is x (h .0) (h .1))))))
 
-sent-by : (c : Core) (k : Kind) → isInitialising c ≡ false → sentBy c (number k) ≡ send k
+pub sent-by : (c : Core) (k : Kind) → isInitialising c ≡ false → sentBy c (number k) ≡ send k
 sent-by c emergency i = rw i
 sent-by c sdoReply i = rw i
 sent-by c heartbeat i = rw i

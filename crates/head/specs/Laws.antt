@@ -2,21 +2,24 @@
 use Prim.Native.Nat.{ℕ, _+_, _<_, _≤_}
 use mathlib.Core.Path.{_≡_}
 use mathlib.Core.Logic.{_↔_}
-use mathlib.Core.Bool.{true, false}
+use mathlib.Core.Bool.{true, false, _||_}
 use mathlib.Core.List.{[]}
 use Rattle.can.specs.declared.Received.{Received}
-use Rattle.can.specs.Frame.{badIdentifier, badLength}
+use Rattle.can.specs.Frame.{badIdentifier, badLength, refusalOf}
 use Rattle.entries.specs.declared.Identity.{Identity}
 use Rattle.dictionary.specs.Accepted.{within}
 use Rattle.dictionary.specs.Valid.{ValidIdentity}
 use Rattle.sdo.specs.Request.{aborting}
 use Rattle.waiting.specs.Line.{places, first, Kinds}
 use Rattle.waiting.specs.Places.{waiting}
+use Rattle.head.specs.declared.Core.{Core}
 use Rattle.head.specs.declared.Head.{Head}
 use Rattle.head.specs.declared.Sensor.{Sensor}
 use Rattle.head.specs.declared.Sensor.the-variants.{Missing, Raw}
-use Rattle.head.specs.States.{Goal, operational, preOperational, state, isIn, isInitialising, isLive, node, started, noCommand, toEnter, command, byteOf}
+use Rattle.head.specs.States.{Goal, operational, preOperational, state, isIn, isInitialising, isLive, node, started, Reset, restored, atRest, missingReading, good, communication, Command, noCommand, toEnter, toReset, command, byteOf, commandOf}
 use Rattle.head.specs.WaitingLine.{Kind, emergency, sdoReply, number, may, bootUpFrame, frameOf}
+use Rattle.head.specs.Timers.{inhibitTicks}
+use Rattle.head.specs.Acts.{errorsAfter}
 use Rattle.head.specs.Calls.{Call, step, noIdentity, poweredUp, received, ticked, sampled, slotted}
 use Rattle.head.specs.Valid.{waits, Valid}
 use Rattle.head.specs.Promised.{PowersUp, Receives, Ticks, Samples, Slots}
@@ -48,6 +51,24 @@ pub data NotMeant (h : Head) (f : Received) : Type 0 where
   -- 4 abort (no effect, no reply)
   client-abort : f .identifier ≡ 0x600 + node (h .core) → aborting (f .bytes) ≡ true → NotMeant h f
 
+-- NMT command: identifier 000h, data, length 2, second byte 0 or N; it says k to this head, which is not Initialising.
+pub record Commands (h : Head) (f : Received) (k : Command) : Type 0 where
+  pub unrefused : refusalOf f ≡ 0
+  pub heard : (f .extended || f .remote || isInitialising (h .core)) ≡ false
+  pub identifier : f .identifier ≡ 0x000
+  pub says : commandOf (node (h .core)) f ≡ k
+
+-- 81h sets all settings to the saved set; 82h only those below 2000h. Both enter Initialising, .. end any inhibit time and forget what was
+-- announced ("good" counts as announced). Reading and error list stay.
+pub record Restarted (r : Reset) (before after : Core) : Type 0 where
+  pub initialising : isInitialising after ≡ true
+  pub timers : after .timers ≡ atRest
+  pub announced : after .announced ≡ true
+  pub settings : after .device .settings ≡ restored r (before .device .settings) (before .device .saved)
+  pub saved : after .device .saved ≡ before .device .saved
+  pub reading : after .device .reading ≡ before .device .reading
+  pub errors : after .device .errors ≡ before .device .errors
+
 -- No second outcome satisfies a promise.
 abbrev pub OneOutcome : {A : Type 0} → (A → Type 0) → Type 0
 OneOutcome {A} Promise = (x y : A) → Promise x → Promise y → x ≡ y
@@ -78,6 +99,12 @@ pub record Laws : Type 0 where
   pub node-taken : (n : ℕ) (i : Identity) → poweredUp n i .refusal ≡ 0 → poweredUp n i .head ≡ started n i
   -- A frame neither refused nor meant for the head changes nothing.
   pub not-meant : (h : Head) (f : Received) → Valid h → NotMeant h f → received h f .head ≡ h
+  -- 01h Operational, 02h Stopped, 80h Pre-operational
+  pub enters : (h : Head) (f : Received) (g : Goal) → Commands h f (toEnter g) → received h f .head .core .nmt ≡ state g
+  pub resets : (h : Head) (f : Received) (r : Reset) → Commands h f (toReset r) → Restarted r (h .core) (received h f .head .core)
+  -- .. samples are taken, in every state; "missing" counts in the error list where the reading was good
+  pub takes-raw : (h : Head) (r : ℕ) → r ≤ 1048575 → sampled h (Raw r) .head .core .device .reading ≡ record { good = true; raw = r }
+  pub loses : (h : Head) → let d = sampled h Missing .head .core .device in (d .reading ≡ missingReading) × (d .errors ≡ errorsAfter (h .core .device))
   -- In Initialising .. timers stand,
   pub timers-stand : (h : Head) → isInitialising (h .core) ≡ true → ticked h ≡ h
   -- and only the boot-up frame waits.
@@ -90,8 +117,17 @@ pub record Laws : Type 0 where
   -- A slot sends the first.
   pub sends-first : (h : Head) → Valid h → isInitialising (h .core) ≡ false → (k : Kind) → first (waiting (h .line)) ≡ number k
       → (slotted h .waited ≡ true) × (slotted h .frame ≡ frameOf (h .core) k)
+  -- and so it no longer waits.
+  pub leaves : (h : Head) → Valid h → isInitialising (h .core) ≡ false → (k : Kind) → first (waiting (h .line)) ≡ number k → waits (slotted h .head) k ≡ false
+  -- The SDO reply's bytes are fixed at the request: while it waits no call alters them.
+  pub reply-fixed : (h : Head) (c : Call) → Valid h → waits h sdoReply ≡ true → step h c .core .reply ≡ h .core .reply
   -- Emergency: waits exactly while the state is Pre-operational or Operational, bit 31 of 1014h is 0, no inhibit time runs, and the present reading .. differs
   pub emergency-exactly : (h : Head) → Valid h → waits h emergency ≡ may (h .core) emergency
+  -- Sending it announces the present reading. Sending starts the inhibit time.
+  pub announces : (h : Head) → Valid h → isInitialising (h .core) ≡ false → first (waiting (h .line)) ≡ number emergency
+      → let c = slotted h .head .core in (c .announced ≡ good (h .core)) × (c .timers .inhibit ≡ inhibitTicks (communication (h .core) .inhibit))
+  -- Writing 1015h doesn't alter a running one; nor does any frame but a reset.
+  pub inhibit-runs : (h : Head) (f : Received) → (f .identifier ≡ 0x000 → ⊥) → received h f .head .core .timers .inhibit ≡ h .core .timers .inhibit
   -- TPDO: .. Only when Operational, switched on (bit 31 of sub 1 is 0) and the reading is good may it join. And so each kind under its condition.
   pub waits-rightly : (h : Head) → Valid h → (k : Kind) → waits h k ≡ true → may (h .core) k ≡ true
   -- For every input, refused ones too, a public call's promise determines the answer and the head afterwards.

@@ -1,0 +1,137 @@
+-- What a call that means something does.
+use Prim.Native.Nat.{ℕ, _≤_}
+use native.Mathlib.Omega.{arith}
+use lib.Dec.{eqb, ltb, leb}
+use mathlib.Core.Path.{_≡_, refl, sym, ap, _∙_}
+use mathlib.Core.Bool.{Bool, true, false, not, _&&_, Bool·beq, and-false}
+use borrow.Author.Tests.{eqb-true, eq-eqb, le-ltb}
+use Rattle.cases.proofs.Cases.{by, both, true-false}
+use Rattle.can.specs.declared.Received.{Received}
+use Rattle.sdo.specs.declared.reply.Effect.{Effect}
+use Rattle.sdo.specs.declared.reply.Effect.the-variants.{Nothing, Reply, Write}
+use Rattle.sdo.specs.Reply.{replies}
+use Rattle.sdo.specs.Service.{answer, due}
+use Rattle.waiting.specs.Line as line
+use Rattle.waiting.specs.Line.{places, has, first}
+use Rattle.waiting.specs.Places.{waiting}
+use Rattle.waiting.proofs.Laws.{laws}
+use Rattle.head.specs.declared.Core.{Core}
+use Rattle.head.specs.declared.Head.{Head}
+use Rattle.head.specs.declared.Sensor.the-variants.{Missing, Raw}
+use Rattle.head.specs.States.{Goal, operational, code, state, isIn, isInitialising, isLive, node, good, communication, missingReading, Reset, one, two, Command, noCommand, toEnter, toReset, commandOf}
+use Rattle.head.specs.Timers.{inhibitTicks}
+use Rattle.head.specs.WaitingLine.{Kind, emergency, sdoReply, heartbeat, tpdo, number, kindOf, flag, may}
+use Rattle.head.specs.Acts.{Act, send, take, acted, moments, timersAfter, errorsAfter, settledTo, act}
+use Rattle.head.specs.Calls.{Call, receive, tick, sample, slot, commanded, meant, sampledAs, step, received, sampled, slotted}
+use Rattle.head.specs.Valid.{waits, Valid}
+use Rattle.head.specs.Laws.{Commands, Restarted}
+use Rattle.head.proofs.Hearing.{heard-by}
+use Rattle.head.proofs.Waits.{waits-act}
+use Rattle.head.proofs.Slots.{sends-first}
+
+-- the core after a call is what its act makes of it
+pub core-step : (h : Head) (c : Call) → step h c .core ≡ acted (h .core) (meant h c)
+unfolding act settledTo
+core-step h c = refl
+
+module _ (h : Head) (f : Received) where
+  commands : {k : Command} → Commands h f k → meant h (receive f) ≡ commanded (h .core) k
+  commands m = rw (eq-eqb _ _ (m .unrefused), m .heard, eq-eqb _ _ (m .identifier), m .says)
+
+  pub enters : (g : Goal) → Commands h f (toEnter g) → received h f .head .core .nmt ≡ state g
+  enters g m =
+      ap (λ c. c .nmt) (core-step h (receive f) ∙ ap (acted (h .core)) (commands m))
+      ∙ by (λ a. acted (h .core) a .nmt ≡ state g) (isIn g (h .core)) (λ e. ap (λ n. record { code = n }) (eqb-true (h .core .nmt .code) (code g) e)) (λ _. refl)
+
+  pub resets : (r : Reset) → Commands h f (toReset r) → Restarted r (h .core) (received h f .head .core)
+  resets r m =
+      rw (core-step h (receive f), commands m)
+      (record { initialising = refl; timers = refl; announced = refl; settings = refl; saved = refl; reading = refl; errors = refl })
+
+module _ (h : Head) where
+  pub takes-raw : (r : ℕ) → r ≤ 1048575 → sampled h (Raw r) .head .core .device .reading ≡ record { good = true; raw = r }
+  takes-raw r b =
+      let m : sampledAs (Raw r) ≡ take r = rw (le-ltb 1048575 r b) in
+      ap (λ c. c .device .reading) (core-step h (sample (Raw r)) ∙ ap (acted (h .core)) m)
+
+  pub loses : let d = sampled h Missing .head .core .device in (d .reading ≡ missingReading) × (d .errors ≡ errorsAfter (h .core .device))
+  loses = rw (core-step h (sample Missing)) (refl, refl)
+
+-- no frame but a reset alters a running inhibit time
+inhibit-after : (c : Core) (e : Effect) → timersAfter c e .inhibit ≡ c .timers .inhibit
+inhibit-after c Nothing = refl
+inhibit-after c Reply = refl
+inhibit-after c (Write k v) = refl
+
+pub inhibit-runs : (h : Head) (f : Received) → (f .identifier ≡ 0x000 → ⊥) → received h f .head .core .timers .inhibit ≡ h .core .timers .inhibit
+inhibit-runs h f n =
+    ap (λ c. c .timers .inhibit) (core-step h (receive f))
+    ∙ heard-by h f Kept refl (λ _ e. absurd (n e))
+    (λ _. by Kept (leb (f .length) 1 && isIn operational (h .core)) (λ _. refl) (λ _. refl))
+    (λ _. by Kept (eqb (f .length) 8 && isLive (h .core) && not (has line.sdoReply (h .line)))
+    (λ _. let s = answer (f .bytes) (due (h .core .device) (isIn operational (h .core)) (f .bytes)) in
+    by Kept (replies (s .effect)) (λ _. inhibit-after (h .core) (s .effect)) (λ _. refl))
+    (λ _. refl))
+  where
+    Kept : Act → Type 0
+    Kept a = acted (h .core) a .timers .inhibit ≡ h .core .timers .inhibit
+
+-- while a reply waits its bytes stay
+module _ (c : Core) where
+  abbrev Same : Act → Type 0
+  Same a = acted c a .reply ≡ c .reply
+
+  reply-sent : (k : Kind) → Same (send k)
+  reply-sent emergency = refl
+  reply-sent sdoReply = refl
+  reply-sent heartbeat = refl
+  reply-sent (tpdo w) = refl
+
+  reply-commanded : (k : Command) → Same (commanded c k)
+  reply-commanded noCommand = refl
+  reply-commanded (toEnter g) = by Same (isIn g c) (λ _. refl) (λ _. refl)
+  reply-commanded (toReset r) = refl
+
+module _ (h : Head) (v : Valid h) (w : waits h sdoReply ≡ true) where
+  reply-stays : (x : Call) → Same (h .core) (meant h x)
+  reply-stays (receive f) =
+      heard-by h f (Same (h .core)) refl (λ _ _. reply-commanded (h .core) (commandOf (node (h .core)) f))
+      (λ _. by (Same (h .core)) (leb (f .length) 1 && isIn operational (h .core)) (λ _. refl) (λ _. refl))
+      (λ _. by (Same (h .core)) (eqb (f .length) 8 && isLive (h .core) && not (has line.sdoReply (h .line)))
+      (λ e. true-false (sym (both (eqb (f .length) 8 && isLive (h .core)) (not (has line.sdoReply (h .line))) e .1) ∙ unserved))
+      (λ _. refl))
+    where
+      unserved : not (has line.sdoReply (h .line)) ≡ false
+      unserved = rw (laws places .waits line.sdoReply (omega arith) (v .line), w)
+  reply-stays tick = by (Same (h .core)) (isInitialising (h .core)) (λ _. refl) (λ _. refl)
+  reply-stays (sample Missing) = refl
+  reply-stays (sample (Raw r)) = by (Same (h .core)) (ltb 1048575 r) (λ _. refl) (λ _. refl)
+  reply-stays slot =
+      by (Same (h .core)) (isInitialising (h .core)) (λ _. refl)
+      (λ _. by (Same (h .core)) (eqb (first (h .line)) 0) (λ _. refl) (λ _. reply-sent (h .core) (kindOf (first (h .line)))))
+
+  pub reply-fixed : (x : Call) → step h x .core .reply ≡ h .core .reply
+  reply-fixed x = ap (λ c. c .reply) (core-step h x) ∙ reply-stays x
+
+beq-self : (b : Bool) → Bool·beq b b ≡ true
+beq-self true = refl
+beq-self false = refl
+
+-- a slot that sends
+module _ (h : Head) (v : Valid h) (i : isInitialising (h .core) ≡ false) where
+  pub announces : first (waiting (h .line)) ≡ number emergency
+      → let c = slotted h .head .core in (c .announced ≡ good (h .core)) × (c .timers .inhibit ≡ inhibitTicks (communication (h .core) .inhibit))
+  announces e = rw (core-step h slot, sends-first h v i emergency e) (refl, refl)
+
+  -- what is sent does not join in the same call
+  sent-rests : (k : Kind) → (flag (moments (h .core) (send k)) k && may (acted (h .core) (send k)) k) ≡ false
+  sent-rests emergency = rw (beq-self (good (h .core))) (simp and-false)
+  sent-rests sdoReply = refl
+  sent-rests heartbeat = refl
+  sent-rests (tpdo one) = refl
+  sent-rests (tpdo two) = refl
+
+  pub leaves : (k : Kind) → first (waiting (h .line)) ≡ number k → waits (slotted h .head) k ≡ false
+  leaves k e =
+      let c = h .core in
+      rw (sends-first h v i k e, waits-act true h (send k) v k, eq-eqb _ _ e, sent-rests k) (and-false (not (may c k && not (may (acted c (send k)) k))))
