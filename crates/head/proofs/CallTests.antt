@@ -3,6 +3,7 @@ use Prim.Native.Nat.{ℕ, _<_, _≤_}
 use lib.Dec.{eqb}
 use mathlib.Core.Path.{_≡_, refl, sym, ap, subst, _∙_}
 use mathlib.Core.Bool.{true, false, not, _||_}
+use mathlib.Core.List.{List}
 use borrow.Author.Tests.{lt-ltb, le-ltb, leb-true}
 use native.Mathlib.Omega.{arith}
 use Rattle.can.specs.declared.Received.{Received}
@@ -12,6 +13,7 @@ use Rattle.entries.specs.declared.Identity.{Identity}
 use Rattle.dictionary.specs.Accepted.{within}
 use Rattle.dictionary.specs.Valid.{ValidIdentity}
 use Rattle.waiting.specs.Line.{first}
+use Rattle.waiting.specs.Places.{takenIn}
 use Rattle.head.specs.declared.Head.{Head}
 use Rattle.head.specs.declared.Sent.{Sent}
 use Rattle.head.specs.declared.Sensor.the-variants.{Missing, Raw}
@@ -23,7 +25,7 @@ use Rattle.head.specs.Valid.{Valid}
 use Rattle.head.proofs.Nothing.{act-nothing}
 use Rattle.head.proofs.CommandTests.{none-acts}
 use Rattle.head.proofs.Valid.{valid-step, valid-started}
-use Rattle.head.proofs.SlotTests.{slot-waits, left, slot-settles}
+use Rattle.head.proofs.SlotTests.{slot-waits, slot-settles}
 
 pub powers-up : (n : ℕ) (i : Identity) → within 1 127 n ≡ true → ValidIdentity i → (answered 0 (started n i) ≡ poweredUp n i) × Valid (started n i)
 powers-up n i e v = let b = both _ _ e in rw e (refl, valid-started n i (leb-true _ _ (b .0)) (leb-true _ _ (b .1)) v)
@@ -59,9 +61,10 @@ module _ (h : Head) (v : Valid h) where
         let q = p ∙ sym (ap (act false h) m) in
         (rw (le-ltb _ _ b) (ap (answered 0) p), leaves (sample (Raw raw)) q)
 
-  pub sends-first :
-      let a = sentBy (h .core) (first (h .line)) in
-      let r = settledTo false (left h) (acted (h .core) a) emergencyOnly in
+  -- l is the line that is left
+  pub sends-first : {l : List ℕ} → l ≡ takenIn (h .line)
+      → let a = sentBy (h .core) (first (h .line)) in
+      let r = settledTo false (record { core = h .core; line = l }) (acted (h .core) a) emergencyOnly in
       let s : Sent = record { waited = isInitialising (h .core) || not (eqb (first (h .line)) 0); frame = frameIn (frameBy (h .core) a); head = r } in
       (s ≡ slotted h) × Valid r
-  sends-first = rw (slot-settles h, ← slot-waits (h .core) (first (h .line))) (refl, valid-step h slot v)
+  sends-first p = rw (p, slot-settles h, ← slot-waits (h .core) (first (h .line))) (refl, valid-step h slot v)

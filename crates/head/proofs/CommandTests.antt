@@ -5,10 +5,11 @@ use mathlib.Core.Path.{_≡_, refl, sym, ap, _∙_}
 use mathlib.Core.Bool.{Bool, true, false, _&&_, _||_}
 use Rattle.can.specs.declared.Received.{Received}
 use Rattle.cases.proofs.Cases.{by₂}
+use Rattle.head.specs.declared.state.Nmt.{Nmt}
 use Rattle.head.specs.declared.Head.{Head}
 use Rattle.head.specs.States.{Goal, operational, state, isIn, node, communication, Reset, restored, Command, toEnter, command, resetCommand, byteOf, commandOf}
 use Rattle.head.specs.Timers.{timersSynced}
-use Rattle.head.specs.Acts.{Act, nothing, reset, sync, resetWith, emergencyOnly, timing, syncMoments, settledTo, act}
+use Rattle.head.specs.Acts.{Act, nothing, reset, sync, entered, resetWith, emergencyOnly, timing, entryMoments, syncMoments, settledTo, act}
 use Rattle.head.specs.Calls.{commanded, synchronised}
 use Rattle.head.specs.Steps.{entering}
 use Rattle.head.proofs.Nothing.{act-nothing}
@@ -18,6 +19,13 @@ pub none-acts : (h : Head) (a : Act) → a ≡ nothing → h ≡ act false h a
 none-acts h a e = sym (ap (act false h) e ∙ act-nothing h)
 
 module _ (h : Head) where
+  module _ (s : Nmt) where
+    pub present : eqb (h .core .nmt .code) (s .code) ≡ true → h ≡ entering h s
+    present e = rw e
+
+    pub another : eqb (h .core .nmt .code) (s .code) ≡ false → settledTo false h (entered (h .core) s) (entryMoments (communication (h .core)) s) ≡ entering h s
+    another e = rw e
+
   pub enters : (g : Goal) → entering h (state g) ≡ act false h (commanded (h .core) (toEnter g))
   unfolding act
   enters g = by₂ (λ (r : Head) (a : Act). r ≡ act false h a) (isIn g (h .core)) (λ e. sym (act-nothing h)) (λ e. refl)

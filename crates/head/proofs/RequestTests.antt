@@ -69,6 +69,10 @@ module _ (h : Head) (s : Served) where
   pub writes-so : (k v : ℕ) → s .effect ≡ Write k v → settledTo false h (serving (h .core) (servedWith (s .bytes) (Write k v))) requestMoments ≡ act false h (served s)
   writes-so k v p = let m : served s ≡ serve s = rw p in serves (Write k v) p ∙ sym (ap (act false h) m)
 
+-- the test of a request, by what the code finds of the state and of the line
+pub tested : (t live waits : Bool) {live′ waits′ r : Bool} → live ≡ live′ → waits ≡ waits′ → (t && live && not waits) ≡ r → (t && live′ && not waits′) ≡ r
+tested t live waits p q e = rw (← p, ← q) e
+
 module _ (h : Head) (f : Received) where
   abbrev Heard : Bool
   Heard = eqb (f .length) 8 && isLive (h .core) && not (has line.sdoReply (h .line))

@@ -65,7 +65,7 @@ module _ (c : Core) (k : ℕ) where
   boot-frame e = ap (λ n. frame (0x700 + node c) 1 (n ∷ [])) (eqb-true (c .nmt .code) 0 e) ∙ frame-as boot (boots e)
 
 -- a head whose first was sent
-abbrev pub left : Head → Head
+abbrev left : Head → Head
 left h = record { core = h .core; line = takenIn (h .line) }
 
 left-settles : (h : Head) (c : Core) (due : Flags) → settledTo false (left h) c due ≡ settledTo true h c due

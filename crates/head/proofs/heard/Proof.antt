@@ -14,13 +14,19 @@ commanded-requires : tie.Need-commanded-requires
 commanded-requires c κs = search needs
 
 returns-2 : tie.Need-returns-2
-returns-2 c = let a = c .before .before .before .before .before .before .before .args in rw (c .commanded .ensures) (commands (a .head) (a .frame) (rw (← c .before .before .before .before .is-initialising .ensures) (c .before .before .before .if1 .left)) (c .before .if2 .taken))
+returns-2 c =
+    let a = c .before .before .before .before .before .before .before .args in
+    rw (c .commanded .ensures)
+    (commands (a .head) (a .frame) (rw (← c .before .before .before .before .is-initialising .ensures) (c .before .before .before .if1 .left)) (c .before .if2 .taken))
 
 synchronised-requires : tie.Need-synchronised-requires
 synchronised-requires c κs = search needs
 
 returns-3 : tie.Need-returns-3
-returns-3 c = let a = c .before .before .before .before .before .before .before .before .before .args in rw (c .synchronised .ensures) (synchronises (a .head) (a .frame) (rw (← c .before .before .before .before .before .before .is-initialising .ensures) (c .before .before .before .before .before .if1 .left)) (c .before .before .before .if2 .left) (c .before .if3 .taken))
+returns-3 c =
+    let a = c .before .before .before .before .before .before .before .before .before .args in
+    rw (c .synchronised .ensures)
+    (synchronises (a .head) (a .frame) (rw (← c .before .before .before .before .before .before .is-initialising .ensures) (c .before .before .before .before .before .if1 .left)) (c .before .before .before .if2 .left) (c .before .if3 .taken))
 
 cast-if4 : tie.Need-cast-if4
 cast-if4 c = search needs
@@ -32,10 +38,15 @@ requested-requires : tie.Need-requested-requires
 requested-requires c κs = search needs
 
 returns-4 : tie.Need-returns-4
-returns-4 c = let a = c .before .before .before .before .before .before .before .before .before .before .before .before .args in rw (c .requested .ensures) (asks (a .head) (a .frame) (rw (← c .before .before .before .before .before .before .before .before .before .is-initialising .ensures) (c .before .before .before .before .before .before .before .before .if1 .left)) (c .before .before .before .before .before .before .if2 .left) (c .before .before .before .before .if3 .left) (c .before .if4 .taken))
+returns-4 c =
+    let a = c .before .before .before .before .before .before .before .before .before .before .before .before .args in
+    rw (c .requested .ensures)
+    (asks (a .head) (a .frame) (rw (← c .before .before .before .before .before .before .before .before .before .is-initialising .ensures) (c .before .before .before .before .before .before .before .before .if1 .left)) (c .before .before .before .before .before .before .if2 .left) (c .before .before .before .before .if3 .left) (c .before .if4 .taken))
 
 returns-5 : tie.Need-returns-5
-returns-5 c = let a = c .before .before .before .before .before .before .before .before .before .before .before .args in not-meant (a .head) (a .frame) (rw (← c .before .before .before .before .before .before .before .before .is-initialising .ensures) (c .before .before .before .before .before .before .before .if1 .left)) (c .before .before .before .before .before .if2 .left) (c .before .before .before .if3 .left) (c .if4 .left)
+returns-5 c =
+    let a = c .before .before .before .before .before .before .before .before .before .before .before .args in
+    not-meant (a .head) (a .frame) (rw (← c .before .before .before .before .before .before .before .before .is-initialising .ensures) (c .before .before .before .before .before .before .before .if1 .left)) (c .before .before .before .before .before .if2 .left) (c .before .before .before .if3 .left) (c .if4 .left)
 
 pub heard-spec : {M : Type 1} → statement M
 heard-spec =

@@ -8,7 +8,9 @@ started-requires : tie.Need-started-requires
 started-requires c κs = search needs
 
 returns : tie.Need-returns
-returns c = rw (c .started .ensures) (powers-up _ _ (c .before .if1 .taken) (record { vendor = search needs; product = search needs; revision = search needs; serial = search needs }))
+returns c =
+    rw (c .started .ensures)
+    (powers-up _ _ (c .before .if1 .taken) (record { vendor = search needs; product = search needs; revision = search needs; serial = search needs }))
 
 started-requires-2 : tie.Need-started-requires-2
 started-requires-2 c κs = search needs

@@ -23,7 +23,9 @@ taken-requires : tie.Need-taken-requires
 taken-requires c κs = search needs
 
 returns-3 : tie.Need-returns-3
-returns-3 c = let a = c .before .before .before .before .before in rw (c .before .before .before .sensor .given .1) (takes (a .args .head) (a .pre) _ (c .before .if1 .left) (c .taken .ensures))
+returns-3 c =
+    let a = c .before .before .before .before .before in
+    rw (c .before .before .before .sensor .given .1) (takes (a .args .head) (a .pre) _ (c .before .if1 .left) (c .taken .ensures))
 
 pub sample-spec : {M : Type 1} → statement M
 sample-spec =

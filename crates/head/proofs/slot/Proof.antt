@@ -26,7 +26,17 @@ settled-requires : tie.Need-settled-requires
 settled-requires c κs = search needs
 
 returns : tie.Need-returns
-returns c = let a = c .before .before .before .before .before .before .before .before .before .before in rw (c .settled .ensures, c .before .emergency-only .ensures, c .before .before .after .ensures, c .before .before .before .frame .ensures, c .before .before .before .before .waits .ensures, c .before .before .before .before .before .taken .ensures, c .before .before .before .before .before .before .first .ensures) (sends-first (a .args .head) (a .pre))
+returns c =
+    let a = c .before .before .before .before .before .before .before .before .before .before in
+    rw (
+      c .settled .ensures,
+      c .before .emergency-only .ensures,
+      c .before .before .after .ensures,
+      c .before .before .before .frame .ensures,
+      c .before .before .before .before .waits .ensures,
+      c .before .before .before .before .before .before .first .ensures,
+    )
+    (sends-first (a .args .head) (a .pre) (c .before .before .before .before .before .taken .ensures))
 
 pub slot-spec : {M : Type 1} → statement M
 slot-spec =

@@ -27,7 +27,16 @@ settled-requires : tie.Need-settled-requires
 settled-requires c κs = search needs
 
 returns-2 : tie.Need-returns-2
-returns-2 c = let a = c .before .before .before .before .before .before .before .before .before .before .before in rw (c .settled .ensures, c .before .due .ensures, c .before .before .timed .ensures, c .before .before .before .ticked .ensures, c .before .before .before .before .is-operational .ensures) (ticks-on (a .args .head) (a .pre) (sym (c .before .before .before .before .before .before .before .before .before .is-initialising .ensures) ∙ c .before .before .before .before .before .before .before .before .if1 .left))
+returns-2 c =
+    let a = c .before .before .before .before .before .before .before .before .before .before .before in
+    rw (
+      c .settled .ensures,
+      c .before .due .ensures,
+      c .before .before .timed .ensures,
+      c .before .before .before .ticked .ensures,
+      c .before .before .before .before .is-operational .ensures,
+    )
+    (ticks-on (a .args .head) (a .pre) (sym (c .before .before .before .before .before .before .before .before .before .is-initialising .ensures) ∙ c .before .before .before .before .before .before .before .before .if1 .left))
 
 pub tick-spec : {M : Type 1} → statement M
 tick-spec =

@@ -14,16 +14,22 @@ booted-requires : tie.Need-booted-requires
 booted-requires c κs = search needs
 
 returns : tie.Need-returns
-returns c = let a = c .before .before .before .before .args in c .booted .ensures ∙ core-as (a .core) (a .kind) boot (boots (a .core) (a .kind) (sym (c .before .before .is-initialising .ensures) ∙ c .before .if1 .taken))
+returns c =
+    let a = c .before .before .before .before .args in
+    c .booted .ensures ∙ core-as (a .core) (a .kind) boot (boots (a .core) (a .kind) (sym (c .before .before .is-initialising .ensures) ∙ c .before .if1 .taken))
 
 announcing-requires : tie.Need-announcing-requires
 announcing-requires c κs = search needs
 
 returns-2 : tie.Need-returns-2
-returns-2 c = let a = c .before .before .before .before .before .args in c .announcing .ensures ∙ core-as (a .core) (a .kind) (send emergency) (sends (a .core) (a .kind) (sym (c .before .before .before .is-initialising .ensures) ∙ c .before .before .if1 .left) emergency (c .before .if2 .taken))
+returns-2 c =
+    let a = c .before .before .before .before .before .args in
+    c .announcing .ensures ∙ core-as (a .core) (a .kind) (send emergency) (sends (a .core) (a .kind) (sym (c .before .before .before .is-initialising .ensures) ∙ c .before .before .if1 .left) emergency (c .before .if2 .taken))
 
 returns-3 : tie.Need-returns-3
-returns-3 c = let a = c .before .before .before .before .args in passes (a .core) (a .kind) (sym (c .before .before .is-initialising .ensures) ∙ c .before .if1 .left) (c .if2 .left)
+returns-3 c =
+    let a = c .before .before .before .before .args in
+    passes (a .core) (a .kind) (sym (c .before .before .is-initialising .ensures) ∙ c .before .if1 .left) (c .if2 .left)
 
 pub after-spec : {M : Type 1} → statement M
 after-spec =

@@ -15,13 +15,17 @@ state-frame-requires : tie.Need-state-frame-requires
 state-frame-requires c κs = search needs
 
 returns : tie.Need-returns
-returns c = let a = c .before .before .before .before .args in c .state-frame .ensures ∙ boot-frame (a .core) (a .kind) (sym (c .before .before .is-initialising .ensures) ∙ c .before .if1 .taken)
+returns c =
+    let a = c .before .before .before .before .args in
+    c .state-frame .ensures ∙ boot-frame (a .core) (a .kind) (sym (c .before .before .is-initialising .ensures) ∙ c .before .if1 .taken)
 
 framed-requires : tie.Need-framed-requires
 framed-requires c κs = search needs
 
 returns-2 : tie.Need-returns-2
-returns-2 c = let a = c .before .before .before .before .before .args in c .framed .ensures ∙ frame-as (a .core) (a .kind) idle (idles (a .core) (a .kind) (sym (c .before .before .before .is-initialising .ensures) ∙ c .before .before .if1 .left) (c .before .if2 .taken))
+returns-2 c =
+    let a = c .before .before .before .before .before .args in
+    c .framed .ensures ∙ frame-as (a .core) (a .kind) idle (idles (a .core) (a .kind) (sym (c .before .before .before .is-initialising .ensures) ∙ c .before .before .if1 .left) (c .before .if2 .taken))
 
 cast-framed : tie.Need-cast-framed
 cast-framed c = search needs
@@ -36,7 +40,13 @@ framed-requires-2 : tie.Need-framed-requires-2
 framed-requires-2 c κs = search needs
 
 returns-3 : tie.Need-returns-3
-returns-3 c = let a = c .before .before .before .before .before .before .before .args in rw (c .framed2 .ensures, c .before .bytes .ensures) (frame-as (a .core) (a .kind) (send emergency) (sends (a .core) (a .kind) (sym (c .before .before .before .before .before .is-initialising .ensures) ∙ c .before .before .before .before .if1 .left) emergency (c .before .before .if3 .taken)))
+returns-3 c =
+    let a = c .before .before .before .before .before .before .before .args in
+    rw (
+      c .framed2 .ensures,
+      c .before .bytes .ensures,
+    )
+    (frame-as (a .core) (a .kind) (send emergency) (sends (a .core) (a .kind) (sym (c .before .before .before .before .before .is-initialising .ensures) ∙ c .before .before .before .before .if1 .left) emergency (c .before .before .if3 .taken)))
 
 cast-framed-2 : tie.Need-cast-framed-2
 cast-framed-2 c = search needs
@@ -48,19 +58,25 @@ framed-requires-3 : tie.Need-framed-requires-3
 framed-requires-3 c κs = search needs
 
 returns-4 : tie.Need-returns-4
-returns-4 c = let a = c .before .before .before .before .before .before .before .before .args in c .framed3 .ensures ∙ frame-as (a .core) (a .kind) (send sdoReply) (sends (a .core) (a .kind) (sym (c .before .before .before .before .before .before .is-initialising .ensures) ∙ c .before .before .before .before .before .if1 .left) sdoReply (c .before .before .if4 .taken))
+returns-4 c =
+    let a = c .before .before .before .before .before .before .before .before .args in
+    c .framed3 .ensures ∙ frame-as (a .core) (a .kind) (send sdoReply) (sends (a .core) (a .kind) (sym (c .before .before .before .before .before .before .is-initialising .ensures) ∙ c .before .before .before .before .before .if1 .left) sdoReply (c .before .before .if4 .taken))
 
 state-frame-requires-2 : tie.Need-state-frame-requires-2
 state-frame-requires-2 c κs = search needs
 
 returns-5 : tie.Need-returns-5
-returns-5 c = let a = c .before .before .before .before .before .before .before .before .args in c .state-frame2 .ensures ∙ frame-as (a .core) (a .kind) (send heartbeat) (sends (a .core) (a .kind) (sym (c .before .before .before .before .before .before .is-initialising .ensures) ∙ c .before .before .before .before .before .if1 .left) heartbeat (c .before .if5 .taken))
+returns-5 c =
+    let a = c .before .before .before .before .before .before .before .before .args in
+    c .state-frame2 .ensures ∙ frame-as (a .core) (a .kind) (send heartbeat) (sends (a .core) (a .kind) (sym (c .before .before .before .before .before .before .is-initialising .ensures) ∙ c .before .before .before .before .before .if1 .left) heartbeat (c .before .if5 .taken))
 
 position-frame-requires : tie.Need-position-frame-requires
 position-frame-requires c κs = search needs
 
 returns-6 : tie.Need-returns-6
-returns-6 c = let a = c .before .before .before .before .before .before .before .before .args in c .position-frame .ensures ∙ frame-as (a .core) (a .kind) (send (tpdo (pdoOf (a .kind)))) (sends-position (a .core) (a .kind) (sym (c .before .before .before .before .before .before .is-initialising .ensures) ∙ c .before .before .before .before .before .if1 .left) (c .before .before .before .before .if2 .left) (c .before .before .before .if3 .left) (c .before .before .if4 .left) (c .before .if5 .left))
+returns-6 c =
+    let a = c .before .before .before .before .before .before .before .before .args in
+    c .position-frame .ensures ∙ frame-as (a .core) (a .kind) (send (tpdo (pdoOf (a .kind)))) (sends-position (a .core) (a .kind) (sym (c .before .before .before .before .before .before .is-initialising .ensures) ∙ c .before .before .before .before .before .if1 .left) (c .before .before .before .before .if2 .left) (c .before .before .before .if3 .left) (c .before .before .if4 .left) (c .before .if5 .left))
 
 pub frame-spec : {M : Type 1} → statement M
 frame-spec =

@@ -32,7 +32,13 @@ framed-requires-2 : tie.Need-framed-requires-2
 framed-requires-2 c κs = search needs
 
 returns-2 : tie.Need-returns-2
-returns-2 c = rw (c .framed2 .ensures, ne-eqb _ _ (c .before .if1 .left), c .before .before .long-bytes .ensures, c .before .before .before .position-of .ensures)
+returns-2 c =
+    rw (
+      c .framed2 .ensures,
+      ne-eqb _ _ (c .before .if1 .left),
+      c .before .before .long-bytes .ensures,
+      c .before .before .before .position-of .ensures,
+    )
 
 pub position-frame-spec : {M : Type 1} → statement M
 position-frame-spec =

@@ -38,10 +38,23 @@ returns : tie.Need-returns
 returns c = unserved _ _ (c .enum-told .given .1)
 
 returns-2 : tie.Need-returns-2
-returns-2 c = rw (c .settled .ensures, c .before .request-due .ensures, c .before .before .replying .ensures) (replies-so _ _ (c .before .before .before .enum-told2 .given .1))
+returns-2 c =
+    rw (
+      c .settled .ensures,
+      c .before .request-due .ensures,
+      c .before .before .replying .ensures,
+    )
+    (replies-so _ _ (c .before .before .before .enum-told2 .given .1))
 
 returns-3 : tie.Need-returns-3
-returns-3 c = rw (c .settled2 .ensures, c .before .request-due2 .ensures, c .before .before .replying2 .ensures, c .before .before .before .written .ensures) (writes-so _ _ _ _ (c .before .before .before .before .before .effect .given .1))
+returns-3 c =
+    rw (
+      c .settled2 .ensures,
+      c .before .request-due2 .ensures,
+      c .before .before .replying2 .ensures,
+      c .before .before .before .written .ensures,
+    )
+    (writes-so _ _ _ _ (c .before .before .before .before .before .effect .given .1))
 
 pub served-spec : {M : Type 1} → statement M
 served-spec =

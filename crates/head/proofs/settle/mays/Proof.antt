@@ -19,7 +19,14 @@ may-requires-4 : tie.Need-may-requires-4
 may-requires-4 c κs = search needs
 
 returns : tie.Need-returns
-returns c = rw (c .may4 .ensures, c .before .may3 .ensures, c .before .before .may2 .ensures, c .before .before .before .is-live .ensures, c .before .before .before .before .may .ensures)
+returns c =
+    rw (
+      c .may4 .ensures,
+      c .before .may3 .ensures,
+      c .before .before .may2 .ensures,
+      c .before .before .before .is-live .ensures,
+      c .before .before .before .before .may .ensures,
+    )
 
 pub mays-spec : {M : Type 1} → statement M
 mays-spec =

@@ -24,7 +24,15 @@ settled-requires : tie.Need-settled-requires
 settled-requires c κs = search needs
 
 returns-2 : tie.Need-returns-2
-returns-2 c = let a = c .before .before .before .before .before .before .before .before .before .before .args in rw (c .settled .ensures, c .before .due .ensures, c .before .before .timed .ensures, c .before .before .before .synced .ensures) (syncs (a .head) (a .length) (rw (← c .before .before .before .before .before .before .before .before .is-operational .ensures) (not-false _ (c .before .before .before .before .before .before .before .if1 .left))))
+returns-2 c =
+    let a = c .before .before .before .before .before .before .before .before .before .before .args in
+    rw (
+      c .settled .ensures,
+      c .before .due .ensures,
+      c .before .before .timed .ensures,
+      c .before .before .before .synced .ensures,
+    )
+    (syncs (a .head) (a .length) (rw (← c .before .before .before .before .before .before .before .before .is-operational .ensures) (not-false _ (c .before .before .before .before .before .before .before .if1 .left))))
 
 pub synchronised-spec : {M : Type 1} → statement M
 synchronised-spec =
