@@ -26,7 +26,7 @@ framed-requires : tie.Need-framed-requires
 framed-requires c κs = search needs
 
 returns : tie.Need-returns
-returns c = rw (c .framed .ensures, eq-eqb _ _ (c .before .if1 .taken), c .before .before .long-bytes .ensures, c .before .before .before .position-of .ensures)
+returns c = rw (c .framed .ensures, eq-eqb _ _ (c .before .if1 .taken), c .before .before .long-bytes .ensures, ← c .before .before .before .position-of .ensures)
 
 framed-requires-2 : tie.Need-framed-requires-2
 framed-requires-2 c κs = search needs
@@ -37,7 +37,7 @@ returns-2 c =
       c .framed2 .ensures,
       ne-eqb _ _ (c .before .if1 .left),
       c .before .before .long-bytes .ensures,
-      c .before .before .before .position-of .ensures,
+      ← c .before .before .before .position-of .ensures,
     )
 
 pub position-frame-spec : {M : Type 1} → statement M
