@@ -14,17 +14,17 @@ use Rattle.dictionary.specs.Accepted.{within}
 use Rattle.dictionary.specs.Valid.{ValidIdentity}
 use Rattle.waiting.specs.Line.{first}
 use Rattle.waiting.specs.Places.{takenIn}
-use Rattle.head.specs.declared.Head.{Head}
-use Rattle.head.specs.declared.Sent.{Sent}
-use Rattle.head.specs.declared.Sensor.the-variants.{Missing, Raw}
-use Rattle.head.specs.States.{operational, isIn, isInitialising, communication, started}
-use Rattle.head.specs.Timers.{timersTicked}
-use Rattle.head.specs.Acts.{take, lose, time, acted, timing, timeMoments, emergencyOnly, settledTo, act, frameBy}
-use Rattle.head.specs.Calls.{Call, receive, tick, sample, slot, timed, sampledAs, sentBy, step, answered, noIdentity, poweredUp, received, ticked, sampled, frameIn, slotted}
-use Rattle.head.specs.Valid.{Valid}
-use Rattle.head.proofs.Nothing.{act-nothing}
+use Rattle.parts.specs.declared.Head.{Head}
+use Rattle.parts.specs.declared.Sent.{Sent}
+use Rattle.parts.specs.declared.Sensor.the-variants.{Missing, Raw}
+use Rattle.promises.specs.States.{operational, isIn, isInitialising, communication, started}
+use Rattle.promises.specs.Timers.{timersTicked}
+use Rattle.promises.specs.Acts.{take, lose, time, acted, timing, timeMoments, emergencyOnly, settledTo, act, frameBy}
+use Rattle.promises.specs.Calls.{Call, receive, tick, sample, slot, timed, sampledAs, sentBy, step, answered, noIdentity, poweredUp, received, ticked, sampled, frameIn, slotted}
+use Rattle.promises.specs.Valid.{Valid}
+use Rattle.promises.proofs.Nothing.{act-nothing}
 use Rattle.head.proofs.CommandTests.{none-acts}
-use Rattle.head.proofs.Valid.{valid-step, valid-started}
+use Rattle.promises.proofs.Valid.{valid-step, valid-started}
 use Rattle.head.proofs.SlotTests.{slot-waits, slot-settles}
 
 pub powers-up : (n : ℕ) (i : Identity) → within 1 127 n ≡ true → ValidIdentity i → (answered 0 (started n i) ≡ poweredUp n i) × Valid (started n i)

@@ -5,14 +5,14 @@ use mathlib.Core.Path.{_≡_, refl, sym, ap, _∙_}
 use mathlib.Core.Bool.{Bool, true, false, _&&_, _||_}
 use Rattle.can.specs.declared.Received.{Received}
 use Rattle.cases.proofs.Cases.{by₂}
-use Rattle.head.specs.declared.state.Nmt.{Nmt}
-use Rattle.head.specs.declared.Head.{Head}
-use Rattle.head.specs.States.{Goal, operational, state, isIn, node, communication, Reset, restored, Command, toEnter, command, resetCommand, byteOf, commandOf}
-use Rattle.head.specs.Timers.{timersSynced}
-use Rattle.head.specs.Acts.{Act, nothing, reset, sync, entered, resetWith, emergencyOnly, timing, entryMoments, syncMoments, settledTo, act}
-use Rattle.head.specs.Calls.{commanded, synchronised}
+use Rattle.parts.specs.declared.Nmt.{Nmt}
+use Rattle.parts.specs.declared.Head.{Head}
+use Rattle.promises.specs.States.{Goal, operational, state, isIn, node, communication, Reset, restored, Command, toEnter, command, resetCommand, byteOf, commandOf}
+use Rattle.promises.specs.Timers.{timersSynced}
+use Rattle.promises.specs.Acts.{Act, nothing, reset, sync, entered, resetWith, emergencyOnly, timing, entryMoments, syncMoments, settledTo, act}
+use Rattle.promises.specs.Calls.{commanded, synchronised}
 use Rattle.head.specs.Steps.{entering}
-use Rattle.head.proofs.Nothing.{act-nothing}
+use Rattle.promises.proofs.Nothing.{act-nothing}
 
 -- an act that is none leaves the head
 pub none-acts : (h : Head) (a : Act) → a ≡ nothing → h ≡ act false h a

@@ -5,10 +5,10 @@ use mathlib.Core.Bool.{Bool, true, false, _||_}
 use borrow.Author.Tests.{eq-eqb, ne-eqb}
 use Rattle.can.specs.declared.Received.{Received}
 use Rattle.can.specs.Frame.{refusalOf}
-use Rattle.head.specs.declared.Head.{Head}
-use Rattle.head.specs.States.{isInitialising, node, commandOf}
-use Rattle.head.specs.Acts.{Act, act}
-use Rattle.head.specs.Calls.{commanded, synchronised, requested, heardUnrefused, receive, step}
+use Rattle.parts.specs.declared.Head.{Head}
+use Rattle.promises.specs.States.{isInitialising, node, commandOf}
+use Rattle.promises.specs.Acts.{Act, act}
+use Rattle.promises.specs.Calls.{commanded, synchronised, requested, heardUnrefused, receive, step}
 use Rattle.head.proofs.CommandTests.{none-acts}
 
 module _ (h : Head) (f : Received) where

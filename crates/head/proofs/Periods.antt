@@ -5,7 +5,7 @@ use native.Mathlib.Numerals.{add-one}
 use native.Mathlib.Omega.{arith}
 use lib.Dec.{eqb, eqb·suc-suc}
 use borrow.Author.Tests.{lt-ltb, le-ltb}
-use Rattle.head.specs.Timers.{counted}
+use Rattle.promises.specs.Timers.{counted}
 
 -- one before the period, the next completes it
 pub last : (period count : ℕ) → (period ≡ 0 → ⊥) → eqb count (period - 1) ≡ eqb (suc count) period

@@ -19,10 +19,10 @@ use Rattle.sdo.specs.Laws.{Told}
 use Rattle.sdo.proofs.Laws as sdo
 use Rattle.waiting.specs.Line as line
 use Rattle.waiting.specs.Line.{has}
-use Rattle.head.specs.declared.Head.{Head}
-use Rattle.head.specs.States.{operational, isIn, isLive}
-use Rattle.head.specs.Acts.{serve, requestMoments, serving, settledTo, act}
-use Rattle.head.specs.Calls.{served, requested}
+use Rattle.parts.specs.declared.Head.{Head}
+use Rattle.promises.specs.States.{operational, isIn, isLive}
+use Rattle.promises.specs.Acts.{serve, requestMoments, serving, settledTo, act}
+use Rattle.promises.specs.Calls.{served, requested}
 use Rattle.head.specs.Steps.{Taken, servedWith}
 use Rattle.head.proofs.CommandTests.{none-acts}
 

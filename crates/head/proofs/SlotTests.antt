@@ -8,15 +8,15 @@ use Rattle.cases.proofs.Cases.{by, cond-ap}
 use mathlib.Core.List.{[], _∷_}
 use Rattle.waiting.specs.Line.{first}
 use Rattle.waiting.specs.Places.{takenIn}
-use Rattle.head.specs.declared.Core.{Core}
-use Rattle.head.specs.declared.Head.{Head}
-use Rattle.head.specs.declared.settle.Flags.{Flags}
-use Rattle.head.specs.States.{one, two, isInitialising, node}
-use Rattle.head.specs.Acts.{Act, boot, idle, send, sending, acted, moments, emergencyOnly, settledTo, act, frameBy}
-use Rattle.head.specs.Calls.{sentBy, isFrame, frameIn}
-use Rattle.head.specs.WaitingLine.{Kind, tpdo, number, kindOf, frame}
+use Rattle.parts.specs.declared.Core.{Core}
+use Rattle.parts.specs.declared.Head.{Head}
+use Rattle.parts.specs.declared.Flags.{Flags}
+use Rattle.promises.specs.States.{one, two, isInitialising, node}
+use Rattle.promises.specs.Acts.{Act, boot, idle, send, sending, acted, moments, emergencyOnly, settledTo, act, frameBy}
+use Rattle.promises.specs.Calls.{sentBy, isFrame, frameIn}
+use Rattle.promises.specs.WaitingLine.{Kind, tpdo, number, kindOf, frame}
 use Rattle.head.specs.Steps.{pdoOf}
-use Rattle.head.proofs.Slots.{sent-by}
+use Rattle.promises.proofs.Slots.{sent-by}
 
 module _ (c : Core) (k : ℕ) where
   -- what holds of each act of a slot holds of what it does

@@ -12,12 +12,12 @@ use Rattle.sdo.specs.declared.reply.Effect.the-variants.{Write}
 use Rattle.sdo.specs.declared.reply.Served.{Served}
 use Rattle.waiting.specs.Line as line
 use Rattle.waiting.specs.Calls.{withdrawsIn, joinsIn}
-use Rattle.head.specs.declared.state.Nmt.{Nmt}
-use Rattle.head.specs.declared.Head.{Head}
-use Rattle.head.specs.declared.settle.Flags.{Flags}
-use Rattle.head.specs.States.{Which, one, two, communication}
-use Rattle.head.specs.WaitingLine.{those, flag}
-use Rattle.head.specs.Acts.{entered, entryMoments, settledTo}
+use Rattle.parts.specs.declared.Nmt.{Nmt}
+use Rattle.parts.specs.declared.Head.{Head}
+use Rattle.parts.specs.declared.Flags.{Flags}
+use Rattle.promises.specs.States.{Which, one, two, communication}
+use Rattle.promises.specs.WaitingLine.{those, flag}
+use Rattle.promises.specs.Acts.{entered, entryMoments, settledTo}
 
 abbrev pub entering : Head → Nmt → Head
 entering h s = cond (eqb (h .core .nmt .code) (s .code)) h (settledTo false h (entered (h .core) s) (entryMoments (communication (h .core)) s))

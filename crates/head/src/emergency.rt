@@ -2,14 +2,14 @@
 ghost use mathlib.Core.Path.{_≡_};
 ghost use Prim.Native.Nat.{_≤_};
 ghost use Rattle.waiting.specs.Places.{pad};
-ghost use Rattle.head.specs.WaitingLine.{mayAlert, emergencyBytes};
-ghost use Rattle.head.specs.Timers.{inhibitTicks};
-ghost use Rattle.head.specs.Acts.{announcing as announcingOf};
-use crate::Core;
+ghost use Rattle.promises.specs.WaitingLine.{mayAlert, emergencyBytes};
+ghost use Rattle.promises.specs.Timers.{inhibitTicks};
+ghost use Rattle.promises.specs.Acts.{announcing as announcingOf};
 use crate::state;
-use crate::state::Nmt;
 use can::Bytes;
 use dictionary::accept::is_on;
+use parts::Core;
+use parts::Nmt;
 
 // 1015h counts units of 100 µs, a tick is 1 ms.
 const UNITS_A_TICK: u32 = 10;

@@ -1,8 +1,8 @@
 //! The heartbeat: when it can wait.
 ghost use mathlib.Core.Path.{_≡_};
-ghost use Rattle.head.specs.WaitingLine.{mayBeat};
+ghost use Rattle.promises.specs.WaitingLine.{mayBeat};
 use crate::state;
-use crate::state::Nmt;
+use parts::Nmt;
 
 pub fn may(state: Nmt, period: u32) -> bool
     ensures { λ r. ⌜ r ≡ mayBeat state period ⌝ }

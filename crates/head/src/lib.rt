@@ -2,19 +2,22 @@
 ghost use mathlib.Core.Path.{_≡_};
 ghost use mathlib.Core.Bool.{false};
 ghost use Rattle.position.specs.Profile.{ValidProfile};
-ghost use Rattle.head.specs.States.{started as startedHead};
-ghost use Rattle.head.specs.Acts.{act};
-ghost use Rattle.head.specs.Calls.{heardUnrefused as heardAs};
-ghost use Rattle.head.specs.Valid.{Valid};
-ghost use Rattle.head.specs.Promised.{PowersUp, Receives, Ticks, Samples, Slots};
-use crate::state::Nmt;
-use can::Bytes;
-use can::Frame;
+ghost use Rattle.promises.specs.States.{started as startedHead};
+ghost use Rattle.promises.specs.Acts.{act};
+ghost use Rattle.promises.specs.Calls.{heardUnrefused as heardAs};
+ghost use Rattle.promises.specs.Valid.{Valid};
+ghost use Rattle.promises.specs.Promised.{PowersUp, Receives, Ticks, Samples, Slots};
 use can::Received;
 use entries::Device;
 use entries::Identity;
 use entries::Reading;
 use entries::Settings;
+use parts::Answer;
+use parts::Core;
+use parts::Head;
+use parts::Nmt;
+use parts::Sensor;
+use parts::Sent;
 use waiting::Line;
 
 mod emergency;
@@ -28,61 +31,6 @@ mod sync;
 mod tape;
 mod time;
 mod tpdo;
-
-// What was counted of a PDO since entry to Operational or since it was switched on; the ticks also since a write to its sub 5.
-#[repr(C)]
-pub struct Clock {
-    pub ticks: u32,
-    pub syncs: u32,
-}
-
-// The inhibit time's ticks left, and the ticks of the heartbeat since its write or since boot-up.
-#[repr(C)]
-pub struct Timers {
-    pub inhibit: u32,
-    pub heartbeat: u32,
-    pub pdo1: Clock,
-    pub pdo2: Clock,
-}
-
-// All but the line. `announced` is whether the reading last announced was good. `reply` holds the bytes of the SDO reply last made.
-#[repr(C)]
-pub struct Core {
-    pub device: Device,
-    pub nmt: Nmt,
-    pub announced: bool,
-    pub timers: Timers,
-    pub reply: Bytes,
-}
-
-// A head is made by `power_up` and altered by the calls only: the promises are for such heads, and each call leaves one.
-#[repr(C)]
-pub struct Head {
-    pub core: Core,
-    pub line: Line,
-}
-
-// The number of a refusal, 0 for none, and the head, which a refused frame or sample leaves as it was.
-// Numbers 1 and 2 are `can::BAD_IDENTIFIER` and `can::BAD_LENGTH`, 0 is `can::NO_REFUSAL`.
-#[repr(C)]
-pub struct Answer {
-    pub refusal: u8,
-    pub head: Head,
-}
-
-// The frame to send, if one waited (it is all 0 otherwise, and not to be sent), and the head.
-#[repr(C)]
-pub struct Sent {
-    pub waited: bool,
-    pub frame: Frame,
-    pub head: Head,
-}
-
-// What the sensor gives.
-pub enum Sensor {
-    Missing,
-    Raw(u32),
-}
 
 pub const BAD_SAMPLE: u8 = 3;
 

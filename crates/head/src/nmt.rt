@@ -1,22 +1,22 @@
 //! NMT: the commands, and the states that they and the boot-up frame enter.
 ghost use mathlib.Core.Path.{_≡_};
 ghost use mathlib.Core.Bool.{false};
-ghost use Rattle.head.specs.States.{commandOf, resetCommand};
-ghost use Rattle.head.specs.Acts.{booted as bootedCore, entered as enteredCore, entryMoments, resetWith, emergencyOnly, settledTo, act};
-ghost use Rattle.head.specs.Calls.{commanded as commandedBy};
+ghost use Rattle.promises.specs.States.{commandOf, resetCommand};
+ghost use Rattle.promises.specs.Acts.{booted as bootedCore, entered as enteredCore, entryMoments, resetWith, emergencyOnly, settledTo, act};
+ghost use Rattle.promises.specs.Calls.{commanded as commandedBy};
 ghost use Rattle.head.specs.Steps.{entering};
-use crate::Core;
-use crate::Head;
-use crate::Timers;
 use crate::settle;
-use crate::settle::Flags;
 use crate::state;
-use crate::state::Nmt;
 use crate::time;
 use crate::tpdo;
 use can::Received;
 use entries::Communication;
 use entries::Settings;
+use parts::Core;
+use parts::Flags;
+use parts::Head;
+use parts::Nmt;
+use parts::Timers;
 
 pub const COMMAND: u32 = 0x000;
 

@@ -2,15 +2,16 @@
 ghost use mathlib.Core.Path.{_≡_};
 ghost use mathlib.Core.Bool.{false};
 ghost use Rattle.waiting.specs.Calls.{withdrawsIn, joinsIn};
-ghost use Rattle.head.specs.WaitingLine.{those, flag, mays as maysOf};
-ghost use Rattle.head.specs.Acts.{emergencyOnly, settledTo};
+ghost use Rattle.promises.specs.WaitingLine.{those, flag, mays as maysOf};
+ghost use Rattle.promises.specs.Acts.{emergencyOnly, settledTo};
 ghost use Rattle.head.specs.Steps.{settledLine};
-use crate::Core;
-use crate::Head;
 use crate::emergency;
 use crate::heartbeat;
 use crate::state;
 use crate::tpdo;
+use parts::Core;
+use parts::Flags;
+use parts::Head;
 use waiting::EMERGENCY;
 use waiting::HEARTBEAT;
 use waiting::Line;
@@ -19,15 +20,6 @@ use waiting::TPDO1;
 use waiting::TPDO2;
 use waiting::join_if;
 use waiting::withdraw_if;
-
-// A flag for each kind.
-pub struct Flags {
-    pub emergency: bool,
-    pub reply: bool,
-    pub heartbeat: bool,
-    pub tpdo1: bool,
-    pub tpdo2: bool,
-}
 
 // The emergency's moment is every call that does something.
 pub fn emergency_only() -> Flags

@@ -1,17 +1,17 @@
 //! SYNC reception.
 ghost use mathlib.Core.Path.{_≡_};
 ghost use mathlib.Core.Bool.{false};
-ghost use Rattle.head.specs.Timers.{timersSynced};
-ghost use Rattle.head.specs.Acts.{syncMoments, act};
-ghost use Rattle.head.specs.Calls.{synchronised as synchronisedBy};
-use crate::Head;
-use crate::Timers;
+ghost use Rattle.promises.specs.Timers.{timersSynced};
+ghost use Rattle.promises.specs.Acts.{syncMoments, act};
+ghost use Rattle.promises.specs.Calls.{synchronised as synchronisedBy};
 use crate::settle;
-use crate::settle::Flags;
 use crate::state;
 use crate::time;
 use crate::tpdo;
 use entries::Communication;
+use parts::Flags;
+use parts::Head;
+use parts::Timers;
 
 pub const SYNC: u32 = 0x080;
 

@@ -3,9 +3,9 @@ ghost use mathlib.Core.Path.{_≡_};
 ghost use Prim.Native.Nat.{suc};
 ghost use lib.Dec.{ltb};
 ghost use mathlib.Core.Bool.{false, _&&_, cond};
-ghost use Rattle.head.specs.Acts.{act, take, lose};
-use crate::Head;
+ghost use Rattle.promises.specs.Acts.{act, take, lose};
 use crate::settle;
+use parts::Head;
 
 const MOST_ERRORS: u32 = 4;
 

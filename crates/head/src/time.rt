@@ -2,16 +2,16 @@
 ghost use mathlib.Core.Path.{_≡_};
 ghost use Prim.Native.Nat.{_-_};
 ghost use mathlib.Core.Bool.{cond};
-ghost use Rattle.head.specs.States.{atRest};
-ghost use Rattle.head.specs.Timers.{counted as countedOf, completes as completesAt, ifRunning, timersTicked};
-ghost use Rattle.head.specs.Acts.{timing, timeMoments};
-use crate::Clock;
-use crate::Core;
-use crate::Timers;
-use crate::settle::Flags;
+ghost use Rattle.promises.specs.States.{atRest};
+ghost use Rattle.promises.specs.Timers.{counted as countedOf, completes as completesAt, ifRunning, timersTicked};
+ghost use Rattle.promises.specs.Acts.{timing, timeMoments};
 use crate::tpdo;
 use entries::Communication;
 use entries::Pdo;
+use parts::Clock;
+use parts::Core;
+use parts::Flags;
+use parts::Timers;
 
 // One more of a period; at its end the count begins again. The first test keeps the sum from running over.
 pub fn counted(period: u32, count: u32) -> u32

@@ -1,15 +1,15 @@
 //! The transmit PDOs: their types, what is counted of them, and when one is due.
 ghost use mathlib.Core.Path.{_≡_};
 ghost use Rattle.dictionary.specs.Accepted.{within};
-ghost use Rattle.head.specs.WaitingLine.{mayShow};
-ghost use Rattle.head.specs.States.{uncounted as uncountedClock};
-ghost use Rattle.head.specs.Timers.{eventDue, syncDue, clockTicked, clockSynced, clockWritten};
-use crate::Clock;
+ghost use Rattle.promises.specs.WaitingLine.{mayShow};
+ghost use Rattle.promises.specs.States.{uncounted as uncountedClock};
+ghost use Rattle.promises.specs.Timers.{eventDue, syncDue, clockTicked, clockSynced, clockWritten};
 use crate::state;
-use crate::state::Nmt;
 use crate::time;
 use dictionary::accept::is_on;
 use entries::Pdo;
+use parts::Clock;
+use parts::Nmt;
 
 // Types 1 to 240 are sent at each so-many-th SYNC, types 254 and 255 by events.
 const MOST_SYNCS: u32 = 240;

@@ -1,7 +1,7 @@
 //! The session program: standard input to standard output, nothing else.
 ghost use Prim.Native.Nat.{_≤_};
 ghost use lib.ListN.{length};
-ghost use Rattle.head.specs.Valid.{Valid};
+ghost use Rattle.promises.specs.Valid.{Valid};
 use libc::STDIN_FILENO;
 use libc::STDOUT_FILENO;
 use text::line;

@@ -7,7 +7,7 @@ use native.Mathlib.Numerals.{add-one}
 use native.Mathlib.Omega.{arith}
 use lib.ListN.{length, take, drop, getD, drop-of-length-le, take-append-drop, length-append, length-drop}
 use lib.Seq.{drop-cons, drop-drop, take-at, drop-at, length-take-le}
-use Rattle.head.specs.Valid.{Valid}
+use Rattle.promises.specs.Valid.{Valid}
 use Rattle.text.specs.Lines.{longest, held}
 use Rattle.transcript.specs.declared.Session.{Session}
 use Rattle.transcript.specs.declared.Fed.{Fed}

@@ -1,8 +1,8 @@
 -- `Laws` of specs/Laws.antt.
 use mathlib.Core.Path.{_≡_, sym, _∙_}
-use Rattle.head.specs.Worked.{node1}
-use Rattle.head.specs.Valid.{Valid}
-use Rattle.head.specs.Laws.{OneOutcome}
+use Rattle.promises.specs.Worked.{node1}
+use Rattle.promises.specs.Valid.{Valid}
+use Rattle.promises.specs.Laws.{OneOutcome}
 use Rattle.text.specs.Grammar.{says}
 use Rattle.transcript.specs.Bytes.{answered, started, fed}
 use Rattle.transcript.specs.Laws.{Laws}

@@ -7,11 +7,11 @@ use lib.ListN.{length}
 use borrow.Author.Tests.{lt-ltb, le-ltb, ne-eqb}
 use Rattle.can.specs.declared.Received.{Received}
 use Rattle.can.specs.Frame.{refusalOf}
-use Rattle.head.specs.declared.Head.{Head}
-use Rattle.head.specs.declared.Answer.{Answer}
-use Rattle.head.specs.declared.Sensor.the-variants.{Raw}
-use Rattle.head.specs.Calls.{received, sampled}
-use Rattle.head.proofs.Laws.{laws as head-laws}
+use Rattle.parts.specs.declared.Head.{Head}
+use Rattle.parts.specs.declared.Answer.{Answer}
+use Rattle.parts.specs.declared.Sensor.the-variants.{Raw}
+use Rattle.promises.specs.Calls.{received, sampled}
+use Rattle.promises.proofs.Laws.{laws as head-laws}
 use Rattle.text.specs.Lines.{longest}
 use Rattle.text.specs.Grammar.{says}
 use Rattle.text.specs.declared.Command.the-variants.{Malformed, Frame, Sample}

@@ -3,9 +3,9 @@ use Prim.Native.Nat.{ℕ, _<_}
 use mathlib.Core.Path.{_≡_}
 use native.Mathlib.Omega.{arith}
 use borrow.Author.Tests.{lt-ltb}
-use Rattle.head.specs.declared.Head.{Head}
-use Rattle.head.specs.declared.Sensor.the-variants.{Raw}
-use Rattle.head.specs.Calls.{sampled}
+use Rattle.parts.specs.declared.Head.{Head}
+use Rattle.parts.specs.declared.Sensor.the-variants.{Raw}
+use Rattle.promises.specs.Calls.{sampled}
 use Rattle.transcript.specs.Commands.{told}
 use Rattle.transcript.specs.Bytes.{replyOf}
 

@@ -7,13 +7,13 @@ use lib.Dec.{eqb}
 use lib.ListN.{length, length-take}
 use Rattle.cases.proofs.Cases.{by}
 use Rattle.can.specs.declared.Frame.{Frame as Data}
-use Rattle.head.specs.declared.Core.{Core}
-use Rattle.head.specs.declared.Head.{Head}
-use Rattle.head.specs.declared.Answer.{Answer}
-use Rattle.head.specs.declared.Sensor.the-variants.{Missing as missing, Raw}
-use Rattle.head.specs.WaitingLine.{Kind, emergency, sdoReply, heartbeat, tpdo, frameOf}
-use Rattle.head.specs.Acts.{Act, nothing, enter, reset, boot, idle, send, take, lose, time, sync, serve, frameBy}
-use Rattle.head.specs.Calls.{slot, meant, received, sampled, slotted, frameIn as frameOr}
+use Rattle.parts.specs.declared.Core.{Core}
+use Rattle.parts.specs.declared.Head.{Head}
+use Rattle.parts.specs.declared.Answer.{Answer}
+use Rattle.parts.specs.declared.Sensor.the-variants.{Missing as missing, Raw}
+use Rattle.promises.specs.WaitingLine.{Kind, emergency, sdoReply, heartbeat, tpdo, frameOf}
+use Rattle.promises.specs.Acts.{Act, nothing, enter, reset, boot, idle, send, take, lose, time, sync, serve, frameBy}
+use Rattle.promises.specs.Calls.{slot, meant, received, sampled, slotted, frameIn as frameOr}
 use Rattle.text.specs.Lines.{longest, lineOf, held}
 use Rattle.text.specs.Printed.{frameText, refusalText}
 use Rattle.text.specs.declared.Command.{Command}

@@ -3,9 +3,9 @@ use Prim.Native.Nat.{ℕ, _+_, _≤_, _<_}
 use mathlib.Core.Path.{_≡_, refl, _∙_}
 use native.Mathlib.Numerals.{add-one}
 use native.Mathlib.Omega.{arith}
-use Rattle.head.specs.declared.Head.{Head}
-use Rattle.head.specs.Calls.{ticked}
-use Rattle.head.specs.Valid.{Valid}
+use Rattle.parts.specs.declared.Head.{Head}
+use Rattle.promises.specs.Calls.{ticked}
+use Rattle.promises.specs.Valid.{Valid}
 use Rattle.transcript.specs.Commands.{ticks}
 
 -- i ticks are done

@@ -5,12 +5,12 @@ use mathlib.Core.List.{List, [], _∷_}
 use native.Mathlib.Omega.{arith}
 use lib.Dec.{eqb}
 use Rattle.cases.proofs.Cases.{by}
-use Rattle.head.specs.declared.Head.{Head}
-use Rattle.head.specs.declared.Answer.{Answer}
-use Rattle.head.specs.declared.Sensor.the-variants.{Missing as missing, Raw}
-use Rattle.head.specs.Calls.{receive, tick, sample, slot, received, sampled}
-use Rattle.head.specs.Valid.{Valid}
-use Rattle.head.proofs.Valid.{valid-step, valid-started}
+use Rattle.parts.specs.declared.Head.{Head}
+use Rattle.parts.specs.declared.Answer.{Answer}
+use Rattle.parts.specs.declared.Sensor.the-variants.{Missing as missing, Raw}
+use Rattle.promises.specs.Calls.{receive, tick, sample, slot, received, sampled}
+use Rattle.promises.specs.Valid.{Valid}
+use Rattle.promises.proofs.Valid.{valid-step, valid-started}
 use Rattle.text.specs.Grammar.{saysLine}
 use Rattle.text.specs.declared.Command.{Command}
 use Rattle.text.specs.declared.Command.the-variants.{Malformed, Frame, Ticks, Sample, Missing, Slot}

@@ -4,11 +4,11 @@ use Prim.Native.Char.{code}
 use mathlib.Core.Path.{_≡_, _∙_}
 use mathlib.Core.List.{List}
 use borrow.Author.Tests.{eq-eqb, ne-eqb}
-use Rattle.head.specs.declared.Head.{Head}
-use Rattle.head.specs.declared.Answer.{Answer}
-use Rattle.head.specs.declared.Sent.{Sent}
-use Rattle.head.specs.declared.Sensor.the-variants.{Missing as missing}
-use Rattle.head.specs.Calls.{sampled, slotted}
+use Rattle.parts.specs.declared.Head.{Head}
+use Rattle.parts.specs.declared.Answer.{Answer}
+use Rattle.parts.specs.declared.Sent.{Sent}
+use Rattle.parts.specs.declared.Sensor.the-variants.{Missing as missing}
+use Rattle.promises.specs.Calls.{sampled, slotted}
 use Rattle.text.specs.Lines.{blank, pushed}
 use Rattle.text.specs.Grammar.{saysLine}
 use Rattle.text.specs.declared.Command.{Command}

@@ -6,7 +6,7 @@ use mathlib.Core.Bool.{true, false}
 use mathlib.Core.List.{List, [], _∷_, _++_, map, append-assoc, append-nil}
 use lib.Dec.{eqb}
 use Rattle.cases.proofs.Cases.{test}
-use Rattle.head.specs.declared.Head.{Head}
+use Rattle.parts.specs.declared.Head.{Head}
 use Rattle.text.specs.Lines.{lines, lineOf, blank, held, pushed, handed}
 use Rattle.text.specs.Grammar.{says}
 use Rattle.text.specs.declared.line.Line.{Line}

@@ -4,7 +4,7 @@ use Rattle.entries.specs.Table.{entries, table, lookup}
 use Rattle.dictionary.specs.Reads.{shownAt}
 use Rattle.dictionary.specs.Writes.{written}
 use Rattle.sdo.specs.Service.{due}
-use Rattle.head.specs.Acts.{settledTo, act}
+use Rattle.promises.specs.Acts.{settledTo, act}
 use Rattle.text.specs.Grammar.{parsed}
 use Rattle.text.specs.Printed.{frameText, refusalText}
 use Rattle.transcript.specs.Worked.{Worked}

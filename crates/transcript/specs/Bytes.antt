@@ -7,8 +7,8 @@ use mathlib.Core.Bool.{cond}
 use mathlib.Core.List.{List, [], _∷_, _++_}
 use lib.Dec.{eqb}
 use lib.ListN.{length, take, drop}
-use Rattle.head.specs.declared.Head.{Head}
-use Rattle.head.specs.Worked.{node1}
+use Rattle.parts.specs.declared.Head.{Head}
+use Rattle.promises.specs.Worked.{node1}
 use Rattle.text.specs.Lines.{longest, lineOf, blank, held, pushed}
 use Rattle.text.specs.Grammar.{saysLine}
 use Rattle.text.specs.declared.line.Line.{Line}

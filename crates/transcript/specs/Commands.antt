@@ -5,11 +5,11 @@ use mathlib.Core.Bool.{false, cond}
 use mathlib.Core.List.{List, []}
 use lib.Dec.{eqb}
 use Rattle.can.specs.declared.Received.{Received}
-use Rattle.head.specs.declared.Head.{Head}
-use Rattle.head.specs.declared.Answer.{Answer}
-use Rattle.head.specs.declared.Sent.{Sent}
-use Rattle.head.specs.declared.Sensor.the-variants.{Missing as missing, Raw}
-use Rattle.head.specs.Calls.{received, ticked, sampled, slotted}
+use Rattle.parts.specs.declared.Head.{Head}
+use Rattle.parts.specs.declared.Answer.{Answer}
+use Rattle.parts.specs.declared.Sent.{Sent}
+use Rattle.parts.specs.declared.Sensor.the-variants.{Missing as missing, Raw}
+use Rattle.promises.specs.Calls.{received, ticked, sampled, slotted}
 use Rattle.text.specs.Printed.{frameText, noneText, refusalText}
 use Rattle.text.specs.declared.Command.{Command}
 use Rattle.text.specs.declared.Command.the-variants.{Malformed, Frame, Ticks, Sample, Missing, Slot}

@@ -4,9 +4,9 @@ use Prim.Native.Nat.{ℕ, _≤_, _<_}
 use mathlib.Core.Path.{_≡_}
 use mathlib.Core.List.{List, _++_}
 use lib.ListN.{length}
-use Rattle.head.specs.declared.Head.{Head}
-use Rattle.head.specs.Valid.{Valid}
-use Rattle.head.specs.Laws.{OneOutcome}
+use Rattle.parts.specs.declared.Head.{Head}
+use Rattle.promises.specs.Valid.{Valid}
+use Rattle.promises.specs.Laws.{OneOutcome}
 use Rattle.text.specs.Lines.{lines, longest, lineOf, blank, held}
 use Rattle.text.specs.Grammar.{says}
 use Rattle.text.specs.declared.Command.the-variants.{Malformed, Frame, Sample}

@@ -2,8 +2,8 @@
 use Prim.Native.Nat.{ℕ}
 use mathlib.Core.Path.{_≡_}
 use mathlib.Core.List.{List}
-use Rattle.head.specs.declared.Head.{Head}
-use Rattle.head.specs.Valid.{Valid}
+use Rattle.parts.specs.declared.Head.{Head}
+use Rattle.promises.specs.Valid.{Valid}
 use Rattle.text.specs.declared.line.Line.{Line}
 use Rattle.transcript.specs.declared.Reply.{Reply}
 use Rattle.transcript.specs.declared.Session.{Session}

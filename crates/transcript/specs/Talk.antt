@@ -2,8 +2,8 @@
 -- `transcript` is the whole program: from the bytes of its standard input to those of its standard output.
 use Prim.Native.Nat.{ℕ}
 use mathlib.Core.List.{List, [], _∷_, _++_}
-use Rattle.head.specs.declared.Head.{Head}
-use Rattle.head.specs.Worked.{node1}
+use Rattle.parts.specs.declared.Head.{Head}
+use Rattle.promises.specs.Worked.{node1}
 use Rattle.text.specs.Lines.{lines}
 use Rattle.text.specs.Grammar.{says}
 use Rattle.transcript.specs.Commands.{Outcome, obeyed}

@@ -1,17 +1,17 @@
 //! What each command does to the head, and what it prints.
 ghost use mathlib.Core.Path.{_≡_};
-ghost use Rattle.head.specs.Calls.{received, sampled};
-ghost use Rattle.head.specs.Valid.{Valid};
-ghost use Rattle.head.specs.declared.Sensor.the-variants.{Raw as raw};
+ghost use Rattle.promises.specs.Calls.{received, sampled};
+ghost use Rattle.promises.specs.Valid.{Valid};
+ghost use Rattle.parts.specs.declared.Sensor.the-variants.{Raw as raw};
 ghost use Rattle.transcript.specs.Commands.{frameIn, ticks, told as tells, shown as shows, refused, silent, obeyed};
 ghost use Rattle.transcript.specs.Bytes.{replyOf};
 use crate::Reply;
 use can::Bytes;
 use can::Received;
-use head::Answer;
-use head::Head;
-use head::Sensor;
-use head::Sent;
+use parts::Answer;
+use parts::Head;
+use parts::Sensor;
+use parts::Sent;
 use text::Command;
 use text::Parsed;
 use text::line;

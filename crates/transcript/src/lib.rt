@@ -2,11 +2,11 @@
 ghost use Prim.Native.Nat.{_+_, _*_, _≤_};
 ghost use lib.ListN.{length};
 ghost use Rattle.text.specs.Lines.{longest, held};
-ghost use Rattle.head.specs.Valid.{Valid};
+ghost use Rattle.promises.specs.Valid.{Valid};
 ghost use Rattle.transcript.specs.Bytes.{Put};
 ghost use Rattle.transcript.specs.Promised.{Starts, Answers, Feeds, Chunks, Closes};
 use entries::Identity;
-use head::Head;
+use parts::Head;
 use text::line;
 use text::line::Line;
 

@@ -7,7 +7,7 @@ use lib.ListN.{length}
 use borrow.Author.Needs.{needs}
 use borrow.Author.Tests.{ltb-true}
 use Rattle.cases.proofs.Cases.{both}
-use Rattle.head.specs.Valid.{Valid}
+use Rattle.promises.specs.Valid.{Valid}
 use Rattle.session.proofs.main.Statement.{statement}
 use Rattle.session.proofs.main.Tie as tie
 

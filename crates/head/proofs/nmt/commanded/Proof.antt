@@ -1,5 +1,5 @@
 -- `nmt::commanded` meets its contract: not addressed, or each return by the command that led there.
-use Rattle.head.specs.States.{resetCommand, byteOf, operational, stopped, preOperational, toEnter}
+use Rattle.promises.specs.States.{resetCommand, byteOf, operational, stopped, preOperational, toEnter}
 use Rattle.head.proofs.CommandTests.{enters, unaddressed, obeys}
 use borrow.Author.Tests.{eq-eqb, ne-eqb, not-true, not-false}
 use mathlib.Core.Path.{_∙_}

@@ -1,7 +1,7 @@
 -- `nmt::restart` meets its contract: each return by the command that led there.
 use borrow.Author.Needs.{needs}
 use Rattle.head.proofs.CommandTests.{none-acts, resets, reset-as}
-use Rattle.head.specs.States.{ofNode, ofCommunication, toReset}
+use Rattle.promises.specs.States.{ofNode, ofCommunication, toReset}
 use borrow.Author.Tests.{eq-eqb, ne-eqb}
 use mathlib.Core.Path.{_∙_}
 use Rattle.head.proofs.nmt.restart.Statement.{statement}

@@ -1,7 +1,7 @@
 -- `sending::after` meets its contract: the boot-up frame, the emergency, or another.
 use Rattle.head.proofs.SlotTests.{boots, sends, passes, core-as}
-use Rattle.head.specs.WaitingLine.{emergency}
-use Rattle.head.specs.Acts.{boot, send}
+use Rattle.promises.specs.WaitingLine.{emergency}
+use Rattle.promises.specs.Acts.{boot, send}
 use mathlib.Core.Path.{sym, _∙_}
 use borrow.Author.Needs.{needs}
 use Rattle.head.proofs.sending.after.Statement.{statement}

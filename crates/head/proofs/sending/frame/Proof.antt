@@ -1,8 +1,8 @@
 -- `sending::frame` meets its contract: each return by the kind that led there.
 use Rattle.head.proofs.SlotTests.{boot-frame, sends, idles, sends-position, frame-as}
 use Rattle.head.specs.Steps.{pdoOf}
-use Rattle.head.specs.WaitingLine.{emergency, sdoReply, heartbeat, tpdo}
-use Rattle.head.specs.Acts.{idle, send}
+use Rattle.promises.specs.WaitingLine.{emergency, sdoReply, heartbeat, tpdo}
+use Rattle.promises.specs.Acts.{idle, send}
 use mathlib.Core.Path.{sym, _∙_}
 use borrow.Author.Needs.{needs}
 use Rattle.head.proofs.sending.frame.Statement.{statement}

@@ -1,6 +1,6 @@
 -- `settle::join_those` meets its contract: kind after kind.
 use Rattle.waiting.specs.Line.{order}
-use Rattle.head.specs.WaitingLine.{flag, kindOf}
+use Rattle.promises.specs.WaitingLine.{flag, kindOf}
 use Rattle.head.proofs.Settling.{joins-those}
 use borrow.Author.Needs.{needs}
 use Rattle.head.proofs.settle.join_those.Statement.{statement}

@@ -1,5 +1,5 @@
 -- `settle::settled` meets its contract, by those of `mays` and `settle`.
-use Rattle.head.specs.Acts.{settledTo}
+use Rattle.promises.specs.Acts.{settledTo}
 use borrow.Author.Needs.{needs}
 use Rattle.head.proofs.settle.settled.Statement.{statement}
 use Rattle.head.proofs.settle.settled.Tie as tie

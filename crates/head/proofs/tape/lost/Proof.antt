@@ -1,5 +1,5 @@
 -- `tape::lost` meets its contract, by those of `errors_after` and `settled`.
-use Rattle.head.specs.Acts.{act}
+use Rattle.promises.specs.Acts.{act}
 use borrow.Author.Needs.{needs}
 use Rattle.head.proofs.tape.lost.Statement.{statement}
 use Rattle.head.proofs.tape.lost.Tie as tie

@@ -1,5 +1,5 @@
 -- `tape::taken` meets its contract, by that of `settled`.
-use Rattle.head.specs.Acts.{act}
+use Rattle.promises.specs.Acts.{act}
 use borrow.Author.Needs.{needs}
 use Rattle.head.proofs.tape.taken.Statement.{statement}
 use Rattle.head.proofs.tape.taken.Tie as tie

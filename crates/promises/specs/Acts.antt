@@ -16,14 +16,14 @@ use Rattle.sdo.specs.declared.reply.Effect.the-variants.{Nothing, Reply, Write}
 use Rattle.sdo.specs.declared.reply.Served.{Served}
 use Rattle.sdo.specs.Reply.{carriedOut}
 use Rattle.waiting.specs.Calls.{afterIn}
-use Rattle.head.specs.declared.state.Nmt.{Nmt}
-use Rattle.head.specs.declared.Timers.{Timers}
-use Rattle.head.specs.declared.Core.{Core}
-use Rattle.head.specs.declared.Head.{Head}
-use Rattle.head.specs.declared.settle.Flags.{Flags}
-use Rattle.head.specs.States.{Goal, operational, preOperational, code, state, initialising, isIn, Reset, restored, communication, good, uncounted, atRest, missingReading}
-use Rattle.head.specs.WaitingLine.{Kind, emergency, sdoReply, heartbeat, tpdo, those, flag, flags, may, bootUpFrame, frameOf}
-use Rattle.head.specs.Timers.{inhibitTicks, completes, synchronous, eventDue, syncDue, timersTicked, timersSynced, timersWritten}
+use Rattle.parts.specs.declared.Nmt.{Nmt}
+use Rattle.parts.specs.declared.Timers.{Timers}
+use Rattle.parts.specs.declared.Core.{Core}
+use Rattle.parts.specs.declared.Head.{Head}
+use Rattle.parts.specs.declared.Flags.{Flags}
+use Rattle.promises.specs.States.{Goal, operational, preOperational, code, state, initialising, isIn, Reset, restored, communication, good, uncounted, atRest, missingReading}
+use Rattle.promises.specs.WaitingLine.{Kind, emergency, sdoReply, heartbeat, tpdo, those, flag, flags, may, bootUpFrame, frameOf}
+use Rattle.promises.specs.Timers.{inhibitTicks, completes, synchronous, eventDue, syncDue, timersTicked, timersSynced, timersWritten}
 
 pub data Act : Type 0 where
   -- a call that has no effect

@@ -16,15 +16,15 @@ use Rattle.sdo.specs.Reply.{replies}
 use Rattle.sdo.specs.Service.{answer, due}
 use Rattle.waiting.specs.Line as line
 use Rattle.waiting.specs.Line.{has, first}
-use Rattle.head.specs.declared.Core.{Core}
-use Rattle.head.specs.declared.Head.{Head}
-use Rattle.head.specs.declared.Answer.{Answer}
-use Rattle.head.specs.declared.Sent.{Sent}
-use Rattle.head.specs.declared.Sensor.{Sensor}
-use Rattle.head.specs.declared.Sensor.the-variants.{Missing, Raw}
-use Rattle.head.specs.States.{operational, isIn, isInitialising, isLive, node, started, Command, noCommand, toEnter, toReset, commandOf}
-use Rattle.head.specs.WaitingLine.{kindOf, frame}
-use Rattle.head.specs.Acts.{Act, nothing, enter, reset, boot, idle, send, take, lose, time, sync, serve, act, frameBy}
+use Rattle.parts.specs.declared.Core.{Core}
+use Rattle.parts.specs.declared.Head.{Head}
+use Rattle.parts.specs.declared.Answer.{Answer}
+use Rattle.parts.specs.declared.Sent.{Sent}
+use Rattle.parts.specs.declared.Sensor.{Sensor}
+use Rattle.parts.specs.declared.Sensor.the-variants.{Missing, Raw}
+use Rattle.promises.specs.States.{operational, isIn, isInitialising, isLive, node, started, Command, noCommand, toEnter, toReset, commandOf}
+use Rattle.promises.specs.WaitingLine.{kindOf, frame}
+use Rattle.promises.specs.Acts.{Act, nothing, enter, reset, boot, idle, send, take, lose, time, sync, serve, act, frameBy}
 
 -- Calls, after power-up: frame received, tick (1 ms), sample (a raw position or "missing"), slot.
 pub data Call : Type 0 where

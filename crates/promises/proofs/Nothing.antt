@@ -3,9 +3,9 @@ use mathlib.Core.Path.{_≡_, ap}
 use mathlib.Core.Bool.{false, and-not-self}
 use mathlib.Core.List.{[]}
 use Rattle.waiting.specs.Calls.{withdrawsIn}
-use Rattle.head.specs.declared.Head.{Head}
-use Rattle.head.specs.Acts.{nothing, settledTo, act, goes}
-use Rattle.head.specs.Calls.{Call, isSlot, meant, step}
+use Rattle.parts.specs.declared.Head.{Head}
+use Rattle.promises.specs.Acts.{nothing, settledTo, act, goes}
+use Rattle.promises.specs.Calls.{Call, isSlot, meant, step}
 
 pub act-nothing : (h : Head) → act false h nothing ≡ h
 unfolding act settledTo

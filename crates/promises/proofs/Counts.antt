@@ -21,15 +21,15 @@ use Rattle.sdo.specs.Reply.{carriedOut}
 use Rattle.sdo.specs.Service.{Due, none, value, confirmation, abort, answer, due}
 use Rattle.sdo.specs.Laws.{Told}
 use Rattle.sdo.proofs.Laws.{laws}
-use Rattle.head.specs.declared.Timers.{Timers}
-use Rattle.head.specs.declared.Core.{Core}
-use Rattle.head.specs.States.{operational, isIn, communication, Which, one, two, pdo, clock, atRest}
-use Rattle.head.specs.WaitingLine.{emergency, sdoReply, heartbeat, tpdo}
-use Rattle.head.specs.Timers.{inhibitTicks}
-use Rattle.head.specs.Acts.{Act, nothing, enter, reset, boot, idle, send, take, lose, time, sync, serve, timersAfter, acted}
-use Rattle.head.specs.Valid.{Below, ValidClock, ValidTimers}
-use Rattle.head.proofs.Fits.{Fits}
-use Rattle.head.proofs.Clocks.{below-counted, uncounted-valid, ticked-valid, synced-valid, written-valid}
+use Rattle.parts.specs.declared.Timers.{Timers}
+use Rattle.parts.specs.declared.Core.{Core}
+use Rattle.promises.specs.States.{operational, isIn, communication, Which, one, two, pdo, clock, atRest}
+use Rattle.promises.specs.WaitingLine.{emergency, sdoReply, heartbeat, tpdo}
+use Rattle.promises.specs.Timers.{inhibitTicks}
+use Rattle.promises.specs.Acts.{Act, nothing, enter, reset, boot, idle, send, take, lose, time, sync, serve, timersAfter, acted}
+use Rattle.promises.specs.Valid.{Below, ValidClock, ValidTimers}
+use Rattle.promises.proofs.Fits.{Fits}
+use Rattle.promises.proofs.Clocks.{below-counted, uncounted-valid, ticked-valid, synced-valid, written-valid}
 
 timers-are : {s : Communication} {t : Timers} → t .inhibit ≤ 6555 → Below (s .heartbeat) (t .heartbeat) → ValidClock (s .pdo1) (t .pdo1) → ValidClock (s .pdo2) (t .pdo2) → ValidTimers s t
 timers-are {s} {t} i b p q = record { inhibit = i; heartbeat = b; clocks = both-valid }

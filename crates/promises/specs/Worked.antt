@@ -5,18 +5,15 @@ use mathlib.Core.Bool.{Bool, true, false}
 use mathlib.Core.List.{List, [], _∷_, _++_}
 use Rattle.can.specs.declared.Frame.{Frame}
 use Rattle.sdo.specs.Worked.{bytes}
-use Rattle.head.specs.declared.Head.{Head}
-use Rattle.head.specs.declared.Sensor.the-variants.{Missing, Raw}
-use Rattle.head.specs.WaitingLine.{frame}
-use Rattle.head.specs.Calls.{Call, receive, tick, sample, slot, step, poweredUp, slotted, noFrame}
+use Rattle.parts.specs.declared.Head.{Head}
+use Rattle.parts.specs.declared.Sensor.the-variants.{Missing, Raw}
+use Rattle.promises.specs.WaitingLine.{frame}
+use Rattle.promises.specs.Calls.{Call, receive, tick, sample, slot, step, poweredUp, slotted, noFrame}
+use Rattle.promises.specs.Histories.{after}
 
 -- node 1, identity 1, 2, 3, 4
 abbrev pub node1 : Head
 node1 = poweredUp 1 (record { vendor = 1; product = 2; revision = 3; serial = 4 }) .head
-
-abbrev pub after : Head → List Call → Head
-after h [] = h
-after h (c ∷ cs) = after (step h c) cs
 
 -- the eight bytes as a frame 601h
 abbrev pub request : List ℕ → Call

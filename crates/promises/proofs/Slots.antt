@@ -11,14 +11,14 @@ use Rattle.cases.proofs.Cases.{test, true-false}
 use Rattle.waiting.specs.Line.{places, has, first, Kinds}
 use Rattle.waiting.specs.Places.{waiting}
 use Rattle.waiting.proofs.Laws.{laws}
-use Rattle.head.specs.declared.Core.{Core}
-use Rattle.head.specs.declared.Head.{Head}
-use Rattle.head.specs.States.{isInitialising, one, two}
-use Rattle.head.specs.WaitingLine.{Kind, emergency, sdoReply, heartbeat, tpdo, number, kindOf, may}
-use Rattle.head.specs.Acts.{Act, boot, send, frameBy}
-use Rattle.head.specs.Calls.{slot, meant, sentBy, isFrame, frameIn, slotted}
-use Rattle.head.specs.Valid.{Valid}
-use Rattle.head.proofs.States.{not-operational, not-live}
+use Rattle.parts.specs.declared.Core.{Core}
+use Rattle.parts.specs.declared.Head.{Head}
+use Rattle.promises.specs.States.{isInitialising, one, two}
+use Rattle.promises.specs.WaitingLine.{Kind, emergency, sdoReply, heartbeat, tpdo, number, kindOf, may}
+use Rattle.promises.specs.Acts.{Act, boot, send, frameBy}
+use Rattle.promises.specs.Calls.{slot, meant, sentBy, isFrame, frameIn, slotted}
+use Rattle.promises.specs.Valid.{Valid}
+use Rattle.promises.proofs.States.{not-operational, not-live}
 
 no-may : (c : Core) (k : Kind) → isInitialising c ≡ true → may c k ≡ false
 no-may c emergency i = rw (not-live c i)

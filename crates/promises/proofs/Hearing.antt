@@ -7,11 +7,11 @@ use borrow.Author.Tests.{eqb-true}
 use Rattle.cases.proofs.Cases.{by, neither}
 use Rattle.can.specs.declared.Received.{Received}
 use Rattle.can.specs.Frame.{refusalOf}
-use Rattle.head.specs.declared.Core.{Core}
-use Rattle.head.specs.declared.Head.{Head}
-use Rattle.head.specs.States.{isInitialising, node, commandOf}
-use Rattle.head.specs.Acts.{Act, nothing}
-use Rattle.head.specs.Calls.{receive, commanded, synchronised, requested, meant}
+use Rattle.parts.specs.declared.Core.{Core}
+use Rattle.parts.specs.declared.Head.{Head}
+use Rattle.promises.specs.States.{isInitialising, node, commandOf}
+use Rattle.promises.specs.Acts.{Act, nothing}
+use Rattle.promises.specs.Calls.{receive, commanded, synchronised, requested, meant}
 
 module _ (h : Head) (f : Received) (P : Act → Type 0) where
   abbrev c : Core

@@ -5,8 +5,8 @@ use mathlib.Core.Bool.{Bool, not, _&&_, _||_, cond}
 use Rattle.entries.specs.declared.Pdo.{Pdo}
 use Rattle.entries.specs.declared.Communication.{Communication}
 use Rattle.dictionary.specs.Accepted.{within, on}
-use Rattle.head.specs.declared.Clock.{Clock}
-use Rattle.head.specs.declared.Timers.{Timers}
+use Rattle.parts.specs.declared.Clock.{Clock}
+use Rattle.parts.specs.declared.Timers.{Timers}
 
 -- for 1015h = v (100 µs units) none if v = 0, else v/10 rounded up, plus 1, ticks
 abbrev pub inhibitTicks : ℕ → ℕ

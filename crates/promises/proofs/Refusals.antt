@@ -10,14 +10,14 @@ use Rattle.can.specs.declared.Received.{Received}
 use Rattle.can.specs.Frame.{refusalOf}
 use Rattle.entries.specs.declared.Identity.{Identity}
 use Rattle.dictionary.specs.Accepted.{within}
-use Rattle.head.specs.declared.Head.{Head}
-use Rattle.head.specs.declared.Answer.{Answer}
-use Rattle.head.specs.declared.Sensor.{Sensor}
-use Rattle.head.specs.declared.Sensor.the-variants.{Missing, Raw}
-use Rattle.head.specs.States.{started}
-use Rattle.head.specs.Acts.{nothing}
-use Rattle.head.specs.Calls.{receive, sample, badSample, sampledAs, step, noIdentity, poweredUp, sampled}
-use Rattle.head.proofs.Nothing.{step-nothing}
+use Rattle.parts.specs.declared.Head.{Head}
+use Rattle.parts.specs.declared.Answer.{Answer}
+use Rattle.parts.specs.declared.Sensor.{Sensor}
+use Rattle.parts.specs.declared.Sensor.the-variants.{Missing, Raw}
+use Rattle.promises.specs.States.{started}
+use Rattle.promises.specs.Acts.{nothing}
+use Rattle.promises.specs.Calls.{receive, sample, badSample, sampledAs, step, noIdentity, poweredUp, sampled}
+use Rattle.promises.proofs.Nothing.{step-nothing}
 
 -- one test: a where it passes, else b
 module _ (a b : ℕ) (apart : eqb a b ≡ false) where

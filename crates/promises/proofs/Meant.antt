@@ -15,19 +15,19 @@ use Rattle.waiting.specs.Line as line
 use Rattle.waiting.specs.Line.{places, has, first}
 use Rattle.waiting.specs.Places.{waiting}
 use Rattle.waiting.proofs.Laws.{laws}
-use Rattle.head.specs.declared.Core.{Core}
-use Rattle.head.specs.declared.Head.{Head}
-use Rattle.head.specs.declared.Sensor.the-variants.{Missing, Raw}
-use Rattle.head.specs.States.{Goal, operational, code, state, isIn, isInitialising, isLive, node, good, communication, missingReading, Reset, one, two, Command, noCommand, toEnter, toReset, commandOf}
-use Rattle.head.specs.Timers.{inhibitTicks}
-use Rattle.head.specs.WaitingLine.{Kind, emergency, sdoReply, heartbeat, tpdo, number, kindOf, flag, may}
-use Rattle.head.specs.Acts.{Act, send, take, acted, moments, timersAfter, errorsAfter, settledTo, act}
-use Rattle.head.specs.Calls.{Call, receive, tick, sample, slot, commanded, meant, sampledAs, step, received, sampled, slotted}
-use Rattle.head.specs.Valid.{waits, Valid}
-use Rattle.head.specs.Laws.{Commands, Restarted}
-use Rattle.head.proofs.Hearing.{heard-by}
-use Rattle.head.proofs.Waits.{waits-act}
-use Rattle.head.proofs.Slots.{sends-first}
+use Rattle.parts.specs.declared.Core.{Core}
+use Rattle.parts.specs.declared.Head.{Head}
+use Rattle.parts.specs.declared.Sensor.the-variants.{Missing, Raw}
+use Rattle.promises.specs.States.{Goal, operational, code, state, isIn, isInitialising, isLive, node, good, communication, missingReading, Reset, one, two, Command, noCommand, toEnter, toReset, commandOf}
+use Rattle.promises.specs.Timers.{inhibitTicks}
+use Rattle.promises.specs.WaitingLine.{Kind, emergency, sdoReply, heartbeat, tpdo, number, kindOf, flag, may}
+use Rattle.promises.specs.Acts.{Act, send, take, acted, moments, timersAfter, errorsAfter, settledTo, act}
+use Rattle.promises.specs.Calls.{Call, receive, tick, sample, slot, commanded, meant, sampledAs, step, received, sampled, slotted}
+use Rattle.promises.specs.Valid.{waits, Valid}
+use Rattle.promises.specs.Laws.{Commands, Restarted}
+use Rattle.promises.proofs.Hearing.{heard-by}
+use Rattle.promises.proofs.Waits.{waits-act}
+use Rattle.promises.proofs.Slots.{sends-first}
 
 -- the core after a call is what its act makes of it
 pub core-step : (h : Head) (c : Call) → step h c .core ≡ acted (h .core) (meant h c)

@@ -14,11 +14,11 @@ use Rattle.entries.specs.declared.Settings.{Settings}
 use Rattle.entries.specs.Settings.{factory}
 use Rattle.waiting.specs.Line.{places}
 use Rattle.waiting.specs.Places.{pad}
-use Rattle.head.specs.declared.state.Nmt.{Nmt}
-use Rattle.head.specs.declared.Clock.{Clock}
-use Rattle.head.specs.declared.Timers.{Timers}
-use Rattle.head.specs.declared.Core.{Core}
-use Rattle.head.specs.declared.Head.{Head}
+use Rattle.parts.specs.declared.Nmt.{Nmt}
+use Rattle.parts.specs.declared.Clock.{Clock}
+use Rattle.parts.specs.declared.Timers.{Timers}
+use Rattle.parts.specs.declared.Core.{Core}
+use Rattle.parts.specs.declared.Head.{Head}
 
 -- Each NMT state is named with its heartbeat code: Stopped 04h, Operational 05h, Pre-operational 7Fh. Initialising sends its 00h as the boot-up frame.
 abbrev pub initialisingCode : ℕ

@@ -10,13 +10,13 @@ use Rattle.dictionary.specs.Accepted.{on}
 use Rattle.dictionary.specs.Valid.{ValidDevice}
 use Rattle.waiting.specs.Line.{places, has}
 use Rattle.waiting.specs.Places.{waiting, Holds}
-use Rattle.head.specs.declared.Clock.{Clock}
-use Rattle.head.specs.declared.Timers.{Timers}
-use Rattle.head.specs.declared.Core.{Core}
-use Rattle.head.specs.declared.Head.{Head}
-use Rattle.head.specs.States.{operational, stopped, preOperational, isIn, isInitialising, communication, Which, pdo, clock, atRest}
-use Rattle.head.specs.Timers.{inhibitTicks}
-use Rattle.head.specs.WaitingLine.{Kind, emergency, number, may}
+use Rattle.parts.specs.declared.Clock.{Clock}
+use Rattle.parts.specs.declared.Timers.{Timers}
+use Rattle.parts.specs.declared.Core.{Core}
+use Rattle.parts.specs.declared.Head.{Head}
+use Rattle.promises.specs.States.{operational, stopped, preOperational, isIn, isInitialising, communication, Which, pdo, clock, atRest}
+use Rattle.promises.specs.Timers.{inhibitTicks}
+use Rattle.promises.specs.WaitingLine.{Kind, emergency, number, may}
 
 -- whether a kind waits
 abbrev pub waits : Head → Kind → Bool

@@ -8,11 +8,11 @@ use Rattle.waiting.specs.Line.{places, order, has, first}
 use Rattle.waiting.specs.Places.{waiting, Holds}
 use Rattle.waiting.specs.Calls.{after, Named}
 use Rattle.waiting.proofs.Laws.{laws, in-turn}
-use Rattle.head.specs.declared.Head.{Head}
-use Rattle.head.specs.States.{one, two}
-use Rattle.head.specs.WaitingLine.{Kind, emergency, sdoReply, heartbeat, tpdo, number, kindOf, those, flag, may}
-use Rattle.head.specs.Acts.{Act, acted, moments, goes, comes, settledTo, act}
-use Rattle.head.specs.Valid.{waits, Valid}
+use Rattle.parts.specs.declared.Head.{Head}
+use Rattle.promises.specs.States.{one, two}
+use Rattle.promises.specs.WaitingLine.{Kind, emergency, sdoReply, heartbeat, tpdo, number, kindOf, those, flag, may}
+use Rattle.promises.specs.Acts.{Act, acted, moments, goes, comes, settledTo, act}
+use Rattle.promises.specs.Valid.{waits, Valid}
 
 kind-of : (k : Kind) → kindOf (number k) ≡ k
 kind-of emergency = refl

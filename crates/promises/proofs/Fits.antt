@@ -11,14 +11,14 @@ use Rattle.sdo.specs.Reply.{replies}
 use Rattle.sdo.specs.Service.{answer, due}
 use Rattle.waiting.specs.Line as line
 use Rattle.waiting.specs.Line.{has, first}
-use Rattle.head.specs.declared.Core.{Core}
-use Rattle.head.specs.declared.Head.{Head}
-use Rattle.head.specs.declared.Sensor.{Sensor}
-use Rattle.head.specs.declared.Sensor.the-variants.{Missing, Raw}
-use Rattle.head.specs.States.{operational, isIn, isInitialising, isLive, node, Command, noCommand, toEnter, toReset, commandOf}
-use Rattle.head.specs.Acts.{Act, nothing, enter, reset, boot, idle, send, take, lose, time, sync, serve}
-use Rattle.head.specs.Calls.{Call, receive, tick, sample, slot, isSlot, commanded, synchronised, requested, meant}
-use Rattle.head.proofs.Hearing.{heard-by}
+use Rattle.parts.specs.declared.Core.{Core}
+use Rattle.parts.specs.declared.Head.{Head}
+use Rattle.parts.specs.declared.Sensor.{Sensor}
+use Rattle.parts.specs.declared.Sensor.the-variants.{Missing, Raw}
+use Rattle.promises.specs.States.{operational, isIn, isInitialising, isLive, node, Command, noCommand, toEnter, toReset, commandOf}
+use Rattle.promises.specs.Acts.{Act, nothing, enter, reset, boot, idle, send, take, lose, time, sync, serve}
+use Rattle.promises.specs.Calls.{Call, receive, tick, sample, slot, isSlot, commanded, synchronised, requested, meant}
+use Rattle.promises.proofs.Hearing.{heard-by}
 
 abbrev pub Fits : Bool → Core → Act → Type 0
 Fits atSlot c nothing = atSlot ≡ false

@@ -3,12 +3,12 @@ use Prim.Native.Nat.{ℕ}
 use mathlib.Core.Path.{_≡_}
 use Rattle.can.specs.declared.Received.{Received}
 use Rattle.entries.specs.declared.Identity.{Identity}
-use Rattle.head.specs.declared.Head.{Head}
-use Rattle.head.specs.declared.Answer.{Answer}
-use Rattle.head.specs.declared.Sent.{Sent}
-use Rattle.head.specs.declared.Sensor.{Sensor}
-use Rattle.head.specs.Calls.{poweredUp, received, ticked, sampled, slotted}
-use Rattle.head.specs.Valid.{Valid}
+use Rattle.parts.specs.declared.Head.{Head}
+use Rattle.parts.specs.declared.Answer.{Answer}
+use Rattle.parts.specs.declared.Sent.{Sent}
+use Rattle.parts.specs.declared.Sensor.{Sensor}
+use Rattle.promises.specs.Calls.{poweredUp, received, ticked, sampled, slotted}
+use Rattle.promises.specs.Valid.{Valid}
 
 abbrev pub PowersUp : ℕ → Identity → Answer → Type 0
 PowersUp n i r = (r ≡ poweredUp n i) × Valid (r .head)

@@ -12,17 +12,17 @@ use Rattle.dictionary.specs.Valid.{ValidIdentity}
 use Rattle.sdo.specs.Request.{aborting}
 use Rattle.waiting.specs.Line.{places, first, Kinds}
 use Rattle.waiting.specs.Places.{waiting}
-use Rattle.head.specs.declared.Core.{Core}
-use Rattle.head.specs.declared.Head.{Head}
-use Rattle.head.specs.declared.Sensor.{Sensor}
-use Rattle.head.specs.declared.Sensor.the-variants.{Missing, Raw}
-use Rattle.head.specs.States.{Goal, operational, preOperational, state, isIn, isInitialising, isLive, node, started, Reset, restored, atRest, missingReading, good, communication, Command, noCommand, toEnter, toReset, command, byteOf, commandOf}
-use Rattle.head.specs.WaitingLine.{Kind, emergency, sdoReply, number, may, bootUpFrame, frameOf}
-use Rattle.head.specs.Timers.{inhibitTicks}
-use Rattle.head.specs.Acts.{errorsAfter}
-use Rattle.head.specs.Calls.{Call, step, noIdentity, poweredUp, received, ticked, sampled, slotted}
-use Rattle.head.specs.Valid.{waits, Valid}
-use Rattle.head.specs.Promised.{PowersUp, Receives, Ticks, Samples, Slots}
+use Rattle.parts.specs.declared.Core.{Core}
+use Rattle.parts.specs.declared.Head.{Head}
+use Rattle.parts.specs.declared.Sensor.{Sensor}
+use Rattle.parts.specs.declared.Sensor.the-variants.{Missing, Raw}
+use Rattle.promises.specs.States.{Goal, operational, preOperational, state, isIn, isInitialising, isLive, node, started, Reset, restored, atRest, missingReading, good, communication, Command, noCommand, toEnter, toReset, command, byteOf, commandOf}
+use Rattle.promises.specs.WaitingLine.{Kind, emergency, sdoReply, number, may, bootUpFrame, frameOf}
+use Rattle.promises.specs.Timers.{inhibitTicks}
+use Rattle.promises.specs.Acts.{errorsAfter}
+use Rattle.promises.specs.Calls.{Call, step, noIdentity, poweredUp, received, ticked, sampled, slotted}
+use Rattle.promises.specs.Valid.{waits, Valid}
+use Rattle.promises.specs.Promised.{PowersUp, Receives, Ticks, Samples, Slots}
 
 -- Why a frame is not meant for the head.
 pub data NotMeant (h : Head) (f : Received) : Type 0 where

@@ -11,19 +11,19 @@ use Rattle.can.specs.Frame.{badIdentifier, badLength}
 use Rattle.entries.specs.declared.Identity.{Identity}
 use Rattle.dictionary.specs.Accepted.{within}
 use Rattle.dictionary.specs.Valid.{ValidIdentity}
-use Rattle.head.specs.declared.Head.{Head}
-use Rattle.head.specs.declared.Answer.{Answer}
-use Rattle.head.specs.WaitingLine.{emergency, may}
-use Rattle.head.specs.Acts.{settledTo, act}
-use Rattle.head.specs.Calls.{receive, tick, noIdentity, poweredUp, received, ticked, sampled, slotted}
-use Rattle.head.specs.Valid.{waits, Valid}
-use Rattle.head.specs.Laws.{OneOutcome, Laws}
-use Rattle.head.proofs.Nothing.{step-nothing}
-use Rattle.head.proofs.Valid.{valid-step, valid-started}
-use Rattle.head.proofs.Refusals.{passes, fails, first-passes, second-passes, neither-passes, power-refusal, frame-refused, sample-refused, node-refused, node-taken}
-use Rattle.head.proofs.Unmeant.{unmeant}
-use Rattle.head.proofs.Meant.{enters, resets, takes-raw, loses, leaves, reply-fixed, announces, inhibit-runs}
-use Rattle.head.proofs.Slots.{answers, boots, none-waits, sends-first, none-exactly}
+use Rattle.parts.specs.declared.Head.{Head}
+use Rattle.parts.specs.declared.Answer.{Answer}
+use Rattle.promises.specs.WaitingLine.{emergency, may}
+use Rattle.promises.specs.Acts.{settledTo, act}
+use Rattle.promises.specs.Calls.{receive, tick, noIdentity, poweredUp, received, ticked, sampled, slotted}
+use Rattle.promises.specs.Valid.{waits, Valid}
+use Rattle.promises.specs.Laws.{OneOutcome, Laws}
+use Rattle.promises.proofs.Nothing.{step-nothing}
+use Rattle.promises.proofs.Valid.{valid-step, valid-started}
+use Rattle.promises.proofs.Refusals.{passes, fails, first-passes, second-passes, neither-passes, power-refusal, frame-refused, sample-refused, node-refused, node-taken}
+use Rattle.promises.proofs.Unmeant.{unmeant}
+use Rattle.promises.proofs.Meant.{enters, resets, takes-raw, loses, leaves, reply-fixed, announces, inhibit-runs}
+use Rattle.promises.proofs.Slots.{answers, boots, none-waits, sends-first, none-exactly}
 
 powered-valid : (n : ℕ) (i : Identity) → ValidIdentity i → Valid (poweredUp n i .head)
 powered-valid n i v =

@@ -10,11 +10,11 @@ use Rattle.entries.specs.declared.Device.{Device}
 use Rattle.entries.specs.declared.Reading.{Reading}
 use Rattle.dictionary.specs.Valid.{ValidSettings, ValidDevice}
 use Rattle.sdo.proofs.Laws.{laws}
-use Rattle.head.specs.declared.Core.{Core}
-use Rattle.head.specs.States.{operational, isIn, Reset, ofNode, ofCommunication, restored}
-use Rattle.head.specs.WaitingLine.{emergency, sdoReply, heartbeat, tpdo}
-use Rattle.head.specs.Acts.{Act, nothing, enter, reset, boot, idle, send, take, lose, time, sync, serve, sensed, resetTo, errorsAfter, acted}
-use Rattle.head.proofs.Fits.{Fits}
+use Rattle.parts.specs.declared.Core.{Core}
+use Rattle.promises.specs.States.{operational, isIn, Reset, ofNode, ofCommunication, restored}
+use Rattle.promises.specs.WaitingLine.{emergency, sdoReply, heartbeat, tpdo}
+use Rattle.promises.specs.Acts.{Act, nothing, enter, reset, boot, idle, send, take, lose, time, sync, serve, sensed, resetTo, errorsAfter, acted}
+use Rattle.promises.proofs.Fits.{Fits}
 
 module _ {d : Device} (v : ValidDevice d) where
   sensed-valid : (r : Reading) (e : ℕ) → r .raw ≤ 1048575 → (r .good ≡ false → r .raw ≡ 0) → e ≤ 4 → ValidDevice (sensed d r e)

@@ -13,14 +13,14 @@ use Rattle.sdo.proofs.Laws.{laws as sdo-laws}
 use Rattle.waiting.specs.Line as line
 use Rattle.waiting.specs.Line.{places, has}
 use Rattle.waiting.proofs.Laws.{laws}
-use Rattle.head.specs.declared.Core.{Core}
-use Rattle.head.specs.declared.Head.{Head}
-use Rattle.head.specs.States.{operational, isIn, isInitialising, isLive, node, command, byteOf, commandOf}
-use Rattle.head.specs.Acts.{Act, nothing}
-use Rattle.head.specs.Calls.{receive, commanded, synchronised, requested, meant}
-use Rattle.head.specs.Valid.{Valid}
-use Rattle.head.specs.Laws.{NotMeant, remote, of-29-bits, not-booted, other-identifier, command-length, other-node, other-command, state-held, sync-length, sync-state, request-length, request-state, reply-waits, client-abort}
-use Rattle.head.proofs.Hearing.{heard-by}
+use Rattle.parts.specs.declared.Core.{Core}
+use Rattle.parts.specs.declared.Head.{Head}
+use Rattle.promises.specs.States.{operational, isIn, isInitialising, isLive, node, command, byteOf, commandOf}
+use Rattle.promises.specs.Acts.{Act, nothing}
+use Rattle.promises.specs.Calls.{receive, commanded, synchronised, requested, meant}
+use Rattle.promises.specs.Valid.{Valid}
+use Rattle.promises.specs.Laws.{NotMeant, remote, of-29-bits, not-booted, other-identifier, command-length, other-node, other-command, state-held, sync-length, sync-state, request-length, request-state, reply-waits, client-abort}
+use Rattle.promises.proofs.Hearing.{heard-by}
 
 module _ (h : Head) (f : Received) where
   abbrev c : Core

@@ -3,12 +3,12 @@ use mathlib.Core.Path.{_≡_, refl, sym, _∙_}
 use mathlib.Core.Bool.{Bool, true, false}
 use borrow.Author.Tests.{eqb-true}
 use Rattle.cases.proofs.Cases.{true-false}
-use Rattle.head.specs.declared.Core.{Core}
-use Rattle.head.specs.States.{initialisingCode, operational, stopped, preOperational, isIn, isInitialising, isLive, atRest}
-use Rattle.head.specs.WaitingLine.{emergency, sdoReply, heartbeat, tpdo}
-use Rattle.head.specs.Acts.{Act, nothing, enter, reset, boot, idle, send, take, lose, time, sync, serve, acted}
-use Rattle.head.specs.Valid.{isNamed}
-use Rattle.head.proofs.Fits.{Fits}
+use Rattle.parts.specs.declared.Core.{Core}
+use Rattle.promises.specs.States.{initialisingCode, operational, stopped, preOperational, isIn, isInitialising, isLive, atRest}
+use Rattle.promises.specs.WaitingLine.{emergency, sdoReply, heartbeat, tpdo}
+use Rattle.promises.specs.Acts.{Act, nothing, enter, reset, boot, idle, send, take, lose, time, sync, serve, acted}
+use Rattle.promises.specs.Valid.{isNamed}
+use Rattle.promises.proofs.Fits.{Fits}
 
 pub named-act : (c : Core) (a : Act) → isNamed c ≡ true → isNamed (acted c a) ≡ true
 named-act c nothing e = e

@@ -10,10 +10,10 @@ use Rattle.entries.specs.declared.Pdo.{Pdo}
 use Rattle.entries.specs.Table.{keyOf}
 use Rattle.dictionary.specs.Accepted.{on, pdoBarred}
 use Rattle.dictionary.specs.Writes.{pdoAfter}
-use Rattle.head.specs.declared.Clock.{Clock}
-use Rattle.head.specs.States.{uncounted}
-use Rattle.head.specs.Timers.{counted, synchronous, clockSynced, ifRunning, switchedOn, clockWritten}
-use Rattle.head.specs.Valid.{Below, ValidClock}
+use Rattle.parts.specs.declared.Clock.{Clock}
+use Rattle.promises.specs.States.{uncounted}
+use Rattle.promises.specs.Timers.{counted, synchronous, clockSynced, ifRunning, switchedOn, clockWritten}
+use Rattle.promises.specs.Valid.{Below, ValidClock}
 
 pub below-counted : (n count : ℕ) → Below n (counted n count)
 below-counted n count = by (Below n) (ltb (suc count) n) (λ e. inr (ltb-true _ _ e)) (λ _. inl refl)

@@ -12,10 +12,10 @@ use Rattle.waiting.specs.Line as line
 use Rattle.waiting.specs.Line.{order}
 use Rattle.waiting.specs.Places.{pad}
 use Rattle.waiting.specs.Calls.{thoseDue}
-use Rattle.head.specs.declared.state.Nmt.{Nmt}
-use Rattle.head.specs.declared.Core.{Core}
-use Rattle.head.specs.declared.settle.Flags.{Flags}
-use Rattle.head.specs.States.{Which, one, two, operational, code, live, isLive, node, communication, good, pdo, initialisingCode}
+use Rattle.parts.specs.declared.Nmt.{Nmt}
+use Rattle.parts.specs.declared.Core.{Core}
+use Rattle.parts.specs.declared.Flags.{Flags}
+use Rattle.promises.specs.States.{Which, one, two, operational, code, live, isLive, node, communication, good, pdo, initialisingCode}
 
 -- Five kinds can wait: emergency, SDO reply, heartbeat, TPDO1, TPDO2. The last two are the position frames.
 pub data Kind : Type 0 where

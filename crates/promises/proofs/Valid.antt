@@ -11,18 +11,18 @@ use Rattle.dictionary.specs.Valid.{ValidIdentity}
 use Rattle.dictionary.proofs.Laws.{laws as dictionary-laws}
 use Rattle.waiting.specs.Line.{places}
 use Rattle.waiting.proofs.Laws.{laws}
-use Rattle.head.specs.declared.Head.{Head}
-use Rattle.head.specs.States.{one, two, started}
-use Rattle.head.specs.WaitingLine.{Kind, emergency, sdoReply, heartbeat, tpdo, flag, may}
-use Rattle.head.specs.Acts.{Act, nothing, enter, reset, boot, idle, send, take, lose, time, sync, serve, acted, moments, settledTo, act}
-use Rattle.head.specs.Calls.{Call, isSlot, meant, step}
-use Rattle.head.specs.Valid.{waits, Valid}
-use Rattle.head.proofs.Nothing.{act-nothing}
-use Rattle.head.proofs.Waits.{sends, holds-act, waits-act}
-use Rattle.head.proofs.Fits.{Fits, fits}
-use Rattle.head.proofs.States.{named-act, fresh-act}
-use Rattle.head.proofs.Device.{device-act}
-use Rattle.head.proofs.Counts.{resting, timers-act}
+use Rattle.parts.specs.declared.Head.{Head}
+use Rattle.promises.specs.States.{one, two, started}
+use Rattle.promises.specs.WaitingLine.{Kind, emergency, sdoReply, heartbeat, tpdo, flag, may}
+use Rattle.promises.specs.Acts.{Act, nothing, enter, reset, boot, idle, send, take, lose, time, sync, serve, acted, moments, settledTo, act}
+use Rattle.promises.specs.Calls.{Call, isSlot, meant, step}
+use Rattle.promises.specs.Valid.{waits, Valid}
+use Rattle.promises.proofs.Nothing.{act-nothing}
+use Rattle.promises.proofs.Waits.{sends, holds-act, waits-act}
+use Rattle.promises.proofs.Fits.{Fits, fits}
+use Rattle.promises.proofs.States.{named-act, fresh-act}
+use Rattle.promises.proofs.Device.{device-act}
+use Rattle.promises.proofs.Counts.{resting, timers-act}
 
 -- A kind that waits afterwards may: m its moment, y and z whether it may before and after, w whether it waited.
 stays-may : (m y z s w : Bool) → (w ≡ true → y ≡ true) → ((m && z) || (not (y && not z) && (s && w))) ≡ true → z ≡ true

@@ -1,0 +1,85 @@
+//! What a head is made of, what its calls take and what they answer. The calls are those of crate `head`.
+use can::Bytes;
+use can::Frame;
+use entries::Device;
+use waiting::Line;
+
+// A state, named with its heartbeat code.
+#[repr(C)]
+pub struct Nmt {
+    pub code: u8,
+}
+
+impl Nmt {
+    pub const INITIALISING: Nmt = Nmt { code: 0x00 };
+
+    pub const STOPPED: Nmt = Nmt { code: 0x04 };
+
+    pub const OPERATIONAL: Nmt = Nmt { code: 0x05 };
+
+    pub const PRE_OPERATIONAL: Nmt = Nmt { code: 0x7F };
+}
+
+// What was counted of a PDO since entry to Operational or since it was switched on; the ticks also since a write to its sub 5.
+#[repr(C)]
+pub struct Clock {
+    pub ticks: u32,
+    pub syncs: u32,
+}
+
+// The inhibit time's ticks left, and the ticks of the heartbeat since its write or since boot-up.
+#[repr(C)]
+pub struct Timers {
+    pub inhibit: u32,
+    pub heartbeat: u32,
+    pub pdo1: Clock,
+    pub pdo2: Clock,
+}
+
+// All but the line. `announced` is whether the reading last announced was good. `reply` holds the bytes of the SDO reply last made.
+#[repr(C)]
+pub struct Core {
+    pub device: Device,
+    pub nmt: Nmt,
+    pub announced: bool,
+    pub timers: Timers,
+    pub reply: Bytes,
+}
+
+// A head is made by `power_up` and altered by the calls only: the promises are for such heads, and each call leaves one.
+#[repr(C)]
+pub struct Head {
+    pub core: Core,
+    pub line: Line,
+}
+
+// The number of a refusal, 0 for none, and the head, which a refused frame or sample leaves as it was.
+// Numbers 1 and 2 are `can::BAD_IDENTIFIER` and `can::BAD_LENGTH`, 0 is `can::NO_REFUSAL`.
+#[repr(C)]
+pub struct Answer {
+    pub refusal: u8,
+    pub head: Head,
+}
+
+// The frame to send, if one waited (it is all 0 otherwise, and not to be sent), and the head.
+#[repr(C)]
+pub struct Sent {
+    pub waited: bool,
+    pub frame: Frame,
+    pub head: Head,
+}
+
+// What the sensor gives.
+pub enum Sensor {
+    Missing,
+    Raw(u32),
+}
+
+// A flag for each kind.
+pub struct Flags {
+    pub emergency: bool,
+    pub reply: bool,
+    pub heartbeat: bool,
+    pub tpdo1: bool,
+    pub tpdo2: bool,
+}

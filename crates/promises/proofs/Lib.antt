@@ -1,0 +1,16 @@
+pub mod Nothing
+pub mod Waits
+pub mod Hearing
+pub mod Fits
+pub mod States
+pub mod Device
+pub mod Clocks
+pub mod Counts
+pub mod Valid
+pub mod Refusals
+pub mod Unmeant
+pub mod Slots
+pub mod Meant
+pub mod Laws
+pub mod Histories
+pub mod Worked

@@ -1,0 +1,10 @@
+pub mod States
+pub mod WaitingLine
+pub mod Timers
+pub mod Acts
+pub mod Calls
+pub mod Valid
+pub mod Promised
+pub mod Histories
+pub mod Laws
+pub mod Worked
