@@ -18,7 +18,7 @@ use Rattle.parts.specs.declared.Sensor.the-variants.{Missing, Raw}
 use Rattle.promises.specs.States.{operational, isIn, isInitialising, isLive, node, Command, noCommand, toEnter, toReset, commandOf}
 use Rattle.promises.specs.Acts.{Act, nothing, enter, reset, boot, idle, send, take, lose, time, sync, serve}
 use Rattle.promises.specs.Calls.{Call, receive, tick, sample, slot, isSlot, commanded, synchronised, requested, meant}
-use Rattle.promises.proofs.Hearing.{heard-by}
+use Rattle.promises.proofs.Hearing.{heard-by, booted}
 
 abbrev pub Fits : Bool → Core → Act → Type 0
 Fits atSlot c nothing = atSlot ≡ false
@@ -63,7 +63,7 @@ module _ (h : Head) where
   fits-sample (Raw r) = by Here (ltb 1048575 r) (λ _. refl) (λ e. ltb-false 1048575 r e)
 
   pub fits : (x : Call) → Fits (isSlot x) c (meant h x)
-  fits (receive f) = heard-by h f Here refl (λ i _. fits-command (commandOf (node c) f) i) (λ _. fits-sync (f .length)) (λ _. fits-request f)
+  fits (receive f) = heard-by h f Here refl (λ x _. fits-command (commandOf (node c) f) (booted x)) (λ _ _. fits-sync (f .length)) (λ _ _. fits-request f)
   fits tick = by Here (isInitialising c) (λ _. refl) (λ i. i)
   fits (sample s) = fits-sample s
   fits slot = by (Fits true c) (isInitialising c) (λ i. i) (λ i. by (Fits true c) (eqb (first (h .line)) 0) (λ _. i) (λ _. i))

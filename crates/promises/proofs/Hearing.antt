@@ -12,20 +12,25 @@ use Rattle.parts.specs.declared.Head.{Head}
 use Rattle.promises.specs.States.{isInitialising, node, commandOf}
 use Rattle.promises.specs.Acts.{Act, nothing}
 use Rattle.promises.specs.Calls.{receive, commanded, synchronised, requested, meant}
+use Rattle.promises.specs.Meant.{Heard}
 
 module _ (h : Head) (f : Received) (P : Act → Type 0) where
   abbrev c : Core
   c = h .core
 
   pub heard-by : P nothing
-      → (isInitialising c ≡ false → f .identifier ≡ 0x000 → P (commanded c (commandOf (node c) f)))
-      → (f .identifier ≡ 0x080 → P (synchronised c (f .length)))
-      → (f .identifier ≡ 0x600 + node c → P (requested h f))
+      → (Heard h f → f .identifier ≡ 0x000 → P (commanded c (commandOf (node c) f)))
+      → (Heard h f → f .identifier ≡ 0x080 → P (synchronised c (f .length)))
+      → (Heard h f → f .identifier ≡ 0x600 + node c → P (requested h f))
       → P (meant h (receive f))
   heard-by none command sync request =
       by P (eqb (refusalOf f) 0)
-      (λ _. by P (f .extended || f .remote || isInitialising c) (λ _. none)
-      (λ n. by P (eqb (f .identifier) 0x000) (λ e. command (neither (f .extended || f .remote) (isInitialising c) n .1) (eqb-true _ _ e))
-      (λ _. by P (eqb (f .identifier) 0x080) (λ e. sync (eqb-true _ _ e))
-      (λ _. by P (eqb (f .identifier) (0x600 + node c)) (λ e. request (eqb-true _ _ e)) (λ _. none)))))
+      (λ u. by P (f .extended || f .remote || isInitialising c) (λ _. none)
+      (λ n. let x : Heard h f = record { unrefused = eqb-true (refusalOf f) 0 u; heard = n } in
+      by P (eqb (f .identifier) 0x000) (λ e. command x (eqb-true _ _ e))
+      (λ _. by P (eqb (f .identifier) 0x080) (λ e. sync x (eqb-true _ _ e))
+      (λ _. by P (eqb (f .identifier) (0x600 + node c)) (λ e. request x (eqb-true _ _ e)) (λ _. none)))))
       (λ _. none)
+
+pub booted : {h : Head} {f : Received} → Heard h f → isInitialising (h .core) ≡ false
+booted {h} {f} x = neither (f .extended || f .remote) (isInitialising (h .core)) (x .heard) .1

@@ -11,6 +11,7 @@ pub mod Refusals
 pub mod Unmeant
 pub mod Slots
 pub mod Meant
+pub mod Causes
 pub mod Laws
 pub mod Histories
 pub mod Worked

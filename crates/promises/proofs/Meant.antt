@@ -24,7 +24,8 @@ use Rattle.promises.specs.WaitingLine.{Kind, emergency, sdoReply, heartb
 use Rattle.promises.specs.Acts.{Act, send, take, acted, moments, timersAfter, errorsAfter, settledTo, act}
 use Rattle.promises.specs.Calls.{Call, receive, tick, sample, slot, commanded, meant, sampledAs, step, received, sampled, slotted}
 use Rattle.promises.specs.Valid.{waits, Valid}
-use Rattle.promises.specs.Laws.{Commands, Restarted}
+use Rattle.promises.specs.Meant.{Commands}
+use Rattle.promises.specs.Laws.{Restarted}
 use Rattle.promises.proofs.Hearing.{heard-by}
 use Rattle.promises.proofs.Waits.{waits-act}
 use Rattle.promises.proofs.Slots.{sends-first}
@@ -35,8 +36,8 @@ unfolding act settledTo
 core-step h c = refl
 
 module _ (h : Head) (f : Received) where
-  commands : {k : Command} → Commands h f k → meant h (receive f) ≡ commanded (h .core) k
-  commands m = rw (eq-eqb _ _ (m .unrefused), m .heard, eq-eqb _ _ (m .identifier), m .says)
+  pub commands : {k : Command} → Commands h f k → meant h (receive f) ≡ commanded (h .core) k
+  commands m = rw (eq-eqb _ _ (m .hears .unrefused), m .hears .heard, eq-eqb _ _ (m .identifier), m .says)
 
   pub enters : (g : Goal) → Commands h f (toEnter g) → received h f .head .core .nmt ≡ state g
   enters g m =
@@ -67,8 +68,8 @@ pub inhibit-runs : (h : Head) (f : Received) → (f .identifier ≡ 0x000 → �
 inhibit-runs h f n =
     ap (λ c. c .timers .inhibit) (core-step h (receive f))
     ∙ heard-by h f Kept refl (λ _ e. absurd (n e))
-    (λ _. by Kept (leb (f .length) 1 && isIn operational (h .core)) (λ _. refl) (λ _. refl))
-    (λ _. by Kept (eqb (f .length) 8 && isLive (h .core) && not (has line.sdoReply (h .line)))
+    (λ _ _. by Kept (leb (f .length) 1 && isIn operational (h .core)) (λ _. refl) (λ _. refl))
+    (λ _ _. by Kept (eqb (f .length) 8 && isLive (h .core) && not (has line.sdoReply (h .line)))
     (λ _. let s = answer (f .bytes) (due (h .core .device) (isIn operational (h .core)) (f .bytes)) in
     by Kept (replies (s .effect)) (λ _. inhibit-after (h .core) (s .effect)) (λ _. refl))
     (λ _. refl))
@@ -96,8 +97,8 @@ module _ (h : Head) (v : Valid h) (w : waits h sdoReply ≡ true) where
   reply-stays : (x : Call) → Same (h .core) (meant h x)
   reply-stays (receive f) =
       heard-by h f (Same (h .core)) refl (λ _ _. reply-commanded (h .core) (commandOf (node (h .core)) f))
-      (λ _. by (Same (h .core)) (leb (f .length) 1 && isIn operational (h .core)) (λ _. refl) (λ _. refl))
-      (λ _. by (Same (h .core)) (eqb (f .length) 8 && isLive (h .core) && not (has line.sdoReply (h .line)))
+      (λ _ _. by (Same (h .core)) (leb (f .length) 1 && isIn operational (h .core)) (λ _. refl) (λ _. refl))
+      (λ _ _. by (Same (h .core)) (eqb (f .length) 8 && isLive (h .core) && not (has line.sdoReply (h .line)))
       (λ e. true-false (sym (both (eqb (f .length) 8 && isLive (h .core)) (not (has line.sdoReply (h .line))) e .1) ∙ unserved))
       (λ _. refl))
     where

@@ -33,13 +33,13 @@ module _ (h : Head) (f : Received) where
   outside e = by None (eqb (refusalOf f) 0) (λ _. rw e) (λ _. refl)
 
   as-command : f .identifier ≡ 0x000 → None (commanded c (commandOf (node c) f)) → None (meant h (receive f))
-  as-command i x = heard-by h f None refl (λ _ _. x) (λ j. absurd (omega (arith, i, j))) (λ j. absurd (omega (arith, i, j)))
+  as-command i x = heard-by h f None refl (λ _ _. x) (λ _ j. absurd (omega (arith, i, j))) (λ _ j. absurd (omega (arith, i, j)))
 
   as-sync : f .identifier ≡ 0x080 → None (synchronised c (f .length)) → None (meant h (receive f))
-  as-sync i x = heard-by h f None refl (λ _ j. absurd (omega (arith, i, j))) (λ _. x) (λ j. absurd (omega (arith, i, j)))
+  as-sync i x = heard-by h f None refl (λ _ j. absurd (omega (arith, i, j))) (λ _ _. x) (λ _ j. absurd (omega (arith, i, j)))
 
   as-request : f .identifier ≡ 0x600 + node c → None (requested h f) → None (meant h (receive f))
-  as-request i x = heard-by h f None refl (λ _ j. absurd (omega (arith, i, j))) (λ j. absurd (omega (arith, i, j))) (λ _. x)
+  as-request i x = heard-by h f None refl (λ _ j. absurd (omega (arith, i, j))) (λ _ j. absurd (omega (arith, i, j))) (λ _ _. x)
 
   addressed : None (commanded c (command (byteOf f 0))) → None (commanded c (commandOf (node c) f))
   addressed x = by (λ k. None (commanded c k)) (eqb (f .length) 2 && (eqb (byteOf f 1) 0 || eqb (byteOf f 1) (node c))) (λ _. x) (λ _. refl)
@@ -48,7 +48,7 @@ module _ (h : Head) (f : Received) where
   unmeant v (remote e) = outside (rw (e, or-true (f .extended)))
   unmeant v (of-29-bits e) = outside (rw e)
   unmeant v (not-booted e) = outside (rw (e, or-true (f .extended || f .remote)))
-  unmeant v (other-identifier x y z) = heard-by h f None refl (λ _ i. absurd (x i)) (λ i. absurd (y i)) (λ i. absurd (z i))
+  unmeant v (other-identifier x y z) = heard-by h f None refl (λ _ i. absurd (x i)) (λ _ i. absurd (y i)) (λ _ i. absurd (z i))
   unmeant v (command-length i n) = as-command i (rw (ne-eqb (f .length) 2 n))
   unmeant v (other-node i x y) = as-command i (rw (ne-eqb (byteOf f 1) 0 x, ne-eqb (byteOf f 1) (node c) y, and-false (eqb (f .length) 2)))
   unmeant v (other-command i e) = as-command i (addressed (rw e))

@@ -22,6 +22,7 @@ use Rattle.promises.specs.Timers.{inhibitTicks}
 use Rattle.promises.specs.Acts.{errorsAfter}
 use Rattle.promises.specs.Calls.{Call, step, noIdentity, poweredUp, received, ticked, sampled, slotted}
 use Rattle.promises.specs.Valid.{waits, Valid}
+use Rattle.promises.specs.Meant.{Commands}
 use Rattle.promises.specs.Promised.{PowersUp, Receives, Ticks, Samples, Slots}
 
 -- Why a frame is not meant for the head.
@@ -50,13 +51,6 @@ pub data NotMeant (h : Head) (f : Received) : Type 0 where
   reply-waits : f .identifier ≡ 0x600 + node (h .core) → waits h sdoReply ≡ true → NotMeant h f
   -- 4 abort (no effect, no reply)
   client-abort : f .identifier ≡ 0x600 + node (h .core) → aborting (f .bytes) ≡ true → NotMeant h f
-
--- NMT command: identifier 000h, data, length 2, second byte 0 or N; it says k to this head, which is not Initialising.
-pub record Commands (h : Head) (f : Received) (k : Command) : Type 0 where
-  pub unrefused : refusalOf f ≡ 0
-  pub heard : (f .extended || f .remote || isInitialising (h .core)) ≡ false
-  pub identifier : f .identifier ≡ 0x000
-  pub says : commandOf (node (h .core)) f ≡ k
 
 -- 81h sets all settings to the saved set; 82h only those below 2000h. Both enter Initialising, .. end any inhibit time and forget what was
 -- announced ("good" counts as announced). Reading and error list stay.

@@ -4,6 +4,7 @@ pub mod Timers
 pub mod Acts
 pub mod Calls
 pub mod Valid
+pub mod Meant
 pub mod Promised
 pub mod Histories
 pub mod Laws

@@ -1,0 +1,76 @@
+-- What a frame means, by which frame it is; and the other way, which frame it was, by what it means.
+use Prim.Native.Nat.{ℕ, _+_}
+use native.Mathlib.Omega.{arith}
+use lib.Dec.{eqb, leb}
+use mathlib.Core.Path.{_≡_, refl, sym, _∙_}
+use mathlib.Core.Bool.{true, false, not, _&&_}
+use borrow.Author.Tests.{eqb-true, eq-eqb, ne-eqb, not-true}
+use Rattle.cases.proofs.Cases.{by, both}
+use Rattle.can.specs.declared.Received.{Received}
+use Rattle.sdo.specs.declared.reply.Served.{Served}
+use Rattle.sdo.specs.Reply.{replies}
+use Rattle.sdo.specs.Service.{answer}
+use Rattle.waiting.specs.Line as line
+use Rattle.waiting.specs.Line.{places, has}
+use Rattle.waiting.proofs.Laws.{laws}
+use Rattle.parts.specs.declared.Head.{Head}
+use Rattle.promises.specs.States.{Goal, operational, isIn, isLive, node, Reset, Command, noCommand, toEnter, toReset, commandOf}
+use Rattle.promises.specs.WaitingLine.{sdoReply}
+use Rattle.promises.specs.Acts.{Act, nothing, enter, reset, boot, idle, send, take, lose, time, sync, serve}
+use Rattle.promises.specs.Calls.{receive, commanded, served, meant}
+use Rattle.promises.specs.Valid.{waits, Valid}
+use Rattle.promises.specs.Meant.{Heard, Commands, Requests, dueTo}
+use Rattle.promises.proofs.Hearing.{heard-by}
+
+-- Which frame it was; the acts that no frame means are none of these.
+abbrev pub Cause : Head → Received → Act → Type 0
+Cause h f nothing = Unit {0}
+Cause h f (enter g) = Commands h f (toEnter g) × (isIn g (h .core) ≡ false)
+Cause h f (reset r) = Commands h f (toReset r)
+Cause h f boot = ⊥
+Cause h f idle = ⊥
+Cause h f (send k) = ⊥
+Cause h f (take r) = ⊥
+Cause h f lose = ⊥
+Cause h f time = ⊥
+Cause h f sync = (f .identifier ≡ 0x080) × (isIn operational (h .core) ≡ true)
+Cause h f (serve s) = Requests h f × (s ≡ answer (f .bytes) (dueTo h f))
+
+module _ (h : Head) (f : Received) (v : Valid h) where
+  -- whether a reply waits, in the line and in its places
+  reply-waits : has line.sdoReply (h .line) ≡ waits h sdoReply
+  reply-waits = laws places .waits line.sdoReply (omega arith) (v .line)
+
+  pub requests : Requests h f → meant h (receive f) ≡ served (answer (f .bytes) (dueTo h f))
+  requests r =
+      rw (
+        eq-eqb _ _ (r .hears .unrefused),
+        r .hears .heard,
+        ne-eqb (f .identifier) 0x000 (λ e. omega (arith, e, r .identifier)),
+        ne-eqb (f .identifier) 0x080 (λ e. omega (arith, e, r .identifier)),
+        eq-eqb (f .identifier) (0x600 + node (h .core)) (r .identifier),
+        eq-eqb _ _ (r .length),
+        r .live,
+        reply-waits,
+        r .free,
+      )
+
+  by-command : (x : Heard h f) → f .identifier ≡ 0x000 → (k : Command) → commandOf (node (h .core)) f ≡ k → Cause h f (commanded (h .core) k)
+  by-command x i noCommand e = tt
+  by-command x i (toEnter g) e = by (Cause h f) (isIn g (h .core)) (λ _. tt) (λ n. (record { hears = x; identifier = i; says = e }, n))
+  by-command x i (toReset r) e = record { hears = x; identifier = i; says = e }
+
+  by-request : (x : Heard h f) → f .identifier ≡ 0x600 + node (h .core) → (eqb (f .length) 8 && isLive (h .core) && not (has line.sdoReply (h .line))) ≡ true → Requests h f
+  by-request x i t =
+      let free = not (has line.sdoReply (h .line)) in
+      let u = both (eqb (f .length) 8 && isLive (h .core)) free t in
+      let w = both (eqb (f .length) 8) (isLive (h .core)) (u .0) in
+      record { hears = x; identifier = i; length = eqb-true (f .length) 8 (w .0); live = w .1; free = sym reply-waits ∙ not-true _ (u .1) }
+
+  pub cause : Cause h f (meant h (receive f))
+  cause =
+      heard-by h f (Cause h f) tt (λ x i. by-command x i (commandOf (node (h .core)) f) refl)
+      (λ x i. by (Cause h f) (leb (f .length) 1 && isIn operational (h .core)) (λ t. (i, both (leb (f .length) 1) (isIn operational (h .core)) t .1)) (λ _. tt))
+      (λ x i. by (Cause h f) (eqb (f .length) 8 && isLive (h .core) && not (has line.sdoReply (h .line)))
+      (λ t. by (Cause h f) (replies (answer (f .bytes) (dueTo h f) .effect)) (λ _. (by-request x i t, refl)) (λ _. tt))
+      (λ _. tt))
