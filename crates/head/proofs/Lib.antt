@@ -1,5 +1,3 @@
-pub mod Periods
-pub mod Settling
 pub mod CommandTests
 pub mod RequestTests
 pub mod FrameTests

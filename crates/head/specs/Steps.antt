@@ -2,7 +2,7 @@
 use Prim.Native.Nat.{ℕ}
 use lib.Dec.{eqb}
 use mathlib.Core.Path.{_≡_}
-use mathlib.Core.Bool.{false, not, _&&_, cond}
+use mathlib.Core.Bool.{false, cond}
 use mathlib.Core.List.{List}
 use Rattle.can.specs.declared.Frame.{Frame}
 use Rattle.entries.specs.declared.Device.{Device}
@@ -11,19 +11,13 @@ use Rattle.sdo.specs.declared.reply.Effect.{Effect}
 use Rattle.sdo.specs.declared.reply.Effect.the-variants.{Write}
 use Rattle.sdo.specs.declared.reply.Served.{Served}
 use Rattle.waiting.specs.Line as line
-use Rattle.waiting.specs.Calls.{withdrawsIn, joinsIn}
 use Rattle.parts.specs.declared.Nmt.{Nmt}
 use Rattle.parts.specs.declared.Head.{Head}
-use Rattle.parts.specs.declared.Flags.{Flags}
 use Rattle.promises.specs.States.{Which, one, two, communication}
-use Rattle.promises.specs.WaitingLine.{those, flag}
 use Rattle.promises.specs.Acts.{entered, entryMoments, settledTo}
 
 abbrev pub entering : Head → Nmt → Head
 entering h s = cond (eqb (h .core .nmt .code) (s .code)) h (settledTo false h (entered (h .core) s) (entryMoments (communication (h .core)) s))
-
-abbrev pub settledLine : List ℕ → Flags → Flags → Flags → List ℕ
-settledLine l before after due = joinsIn (withdrawsIn l (those (λ k. flag before k && not (flag after k)))) (those (λ k. flag due k && flag after k))
 
 -- a write that its entry takes
 abbrev pub Taken : Device → Effect → Type 0

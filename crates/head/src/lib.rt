@@ -18,19 +18,15 @@ use parts::Head;
 use parts::Nmt;
 use parts::Sensor;
 use parts::Sent;
-use waiting::Line;
+use services::settle;
+use services::state;
+use services::time;
 
-mod emergency;
-mod heartbeat;
 mod nmt;
 mod sending;
 mod service;
-mod settle;
-pub mod state;
 mod sync;
 mod tape;
-mod time;
-mod tpdo;
 
 pub const BAD_SAMPLE: u8 = 3;
 

@@ -5,10 +5,6 @@ ghost use Rattle.promises.specs.States.{commandOf, resetCommand};
 ghost use Rattle.promises.specs.Acts.{booted as bootedCore, entered as enteredCore, entryMoments, resetWith, emergencyOnly, settledTo, act};
 ghost use Rattle.promises.specs.Calls.{commanded as commandedBy};
 ghost use Rattle.head.specs.Steps.{entering};
-use crate::settle;
-use crate::state;
-use crate::time;
-use crate::tpdo;
 use can::Received;
 use entries::Communication;
 use entries::Settings;
@@ -17,6 +13,10 @@ use parts::Flags;
 use parts::Head;
 use parts::Nmt;
 use parts::Timers;
+use services::settle;
+use services::state;
+use services::time;
+use services::tpdo;
 
 pub const COMMAND: u32 = 0x000;
 

@@ -10,13 +10,13 @@ ghost use Rattle.promises.specs.WaitingLine.{Kind, frame as frameWith, frameOf}
 ghost use Rattle.promises.specs.Acts.{acted, frameBy};
 ghost use Rattle.promises.specs.Calls.{sentBy, frameIn};
 ghost use Rattle.head.specs.Steps.{pdoOf, sendable};
-use crate::emergency;
 use crate::nmt;
-use crate::state;
 use can::Bytes;
 use can::Frame;
 use parts::Core;
 use parts::Nmt;
+use services::emergency;
+use services::state;
 use waiting::EMERGENCY;
 use waiting::HEARTBEAT;
 use waiting::SDO_REPLY;

@@ -8,10 +8,6 @@ ghost use Rattle.promises.specs.Timers.{timersWritten};
 ghost use Rattle.promises.specs.Acts.{requestMoments, serving, act};
 ghost use Rattle.promises.specs.Calls.{requested as requestedBy, served as servedBy};
 ghost use Rattle.head.specs.Steps.{Taken, servedWith};
-use crate::settle;
-use crate::state;
-use crate::time;
-use crate::tpdo;
 use can::Bytes;
 use can::Received;
 use entries::Communication;
@@ -25,6 +21,10 @@ use parts::Head;
 use parts::Timers;
 use sdo::reply::Effect;
 use sdo::reply::Served;
+use services::settle;
+use services::state;
+use services::time;
+use services::tpdo;
 
 pub const REQUEST: u32 = 0x600;
 

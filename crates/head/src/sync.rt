@@ -4,14 +4,14 @@ ghost use mathlib.Core.Bool.{false};
 ghost use Rattle.promises.specs.Timers.{timersSynced};
 ghost use Rattle.promises.specs.Acts.{syncMoments, act};
 ghost use Rattle.promises.specs.Calls.{synchronised as synchronisedBy};
-use crate::settle;
-use crate::state;
-use crate::time;
-use crate::tpdo;
 use entries::Communication;
 use parts::Flags;
 use parts::Head;
 use parts::Timers;
+use services::settle;
+use services::state;
+use services::time;
+use services::tpdo;
 
 pub const SYNC: u32 = 0x080;
 

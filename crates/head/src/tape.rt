@@ -4,8 +4,8 @@ ghost use Prim.Native.Nat.{suc};
 ghost use lib.Dec.{ltb};
 ghost use mathlib.Core.Bool.{false, _&&_, cond};
 ghost use Rattle.promises.specs.Acts.{act, take, lose};
-use crate::settle;
 use parts::Head;
+use services::settle;
 
 const MOST_ERRORS: u32 = 4;
 

@@ -1,5 +1,5 @@
 -- What a frame means, by which frame it is; and the other way, which frame it was, by what it means.
-use Prim.Native.Nat.{ℕ, _+_}
+use Prim.Native.Nat.{_+_}
 use native.Mathlib.Omega.{arith}
 use lib.Dec.{eqb, leb}
 use mathlib.Core.Path.{_≡_, refl, sym, _∙_}
@@ -7,14 +7,13 @@ use mathlib.Core.Bool.{true, false, not, _&&_}
 use borrow.Author.Tests.{eqb-true, eq-eqb, ne-eqb, not-true}
 use Rattle.cases.proofs.Cases.{by, both}
 use Rattle.can.specs.declared.Received.{Received}
-use Rattle.sdo.specs.declared.reply.Served.{Served}
 use Rattle.sdo.specs.Reply.{replies}
 use Rattle.sdo.specs.Service.{answer}
 use Rattle.waiting.specs.Line as line
 use Rattle.waiting.specs.Line.{places, has}
 use Rattle.waiting.proofs.Laws.{laws}
 use Rattle.parts.specs.declared.Head.{Head}
-use Rattle.promises.specs.States.{Goal, operational, isIn, isLive, node, Reset, Command, noCommand, toEnter, toReset, commandOf}
+use Rattle.promises.specs.States.{operational, isIn, isLive, node, Command, noCommand, toEnter, toReset, commandOf}
 use Rattle.promises.specs.WaitingLine.{sdoReply}
 use Rattle.promises.specs.Acts.{Act, nothing, enter, reset, boot, idle, send, take, lose, time, sync, serve}
 use Rattle.promises.specs.Calls.{receive, commanded, served, meant}

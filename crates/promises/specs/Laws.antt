@@ -2,10 +2,10 @@
 use Prim.Native.Nat.{ℕ, _+_, _<_, _≤_}
 use mathlib.Core.Path.{_≡_}
 use mathlib.Core.Logic.{_↔_}
-use mathlib.Core.Bool.{true, false, _||_}
+use mathlib.Core.Bool.{true, false}
 use mathlib.Core.List.{[]}
 use Rattle.can.specs.declared.Received.{Received}
-use Rattle.can.specs.Frame.{badIdentifier, badLength, refusalOf}
+use Rattle.can.specs.Frame.{badIdentifier, badLength}
 use Rattle.entries.specs.declared.Identity.{Identity}
 use Rattle.dictionary.specs.Accepted.{within}
 use Rattle.dictionary.specs.Valid.{ValidIdentity}
@@ -16,7 +16,7 @@ use Rattle.parts.specs.declared.Core.{Core}
 use Rattle.parts.specs.declared.Head.{Head}
 use Rattle.parts.specs.declared.Sensor.{Sensor}
 use Rattle.parts.specs.declared.Sensor.the-variants.{Missing, Raw}
-use Rattle.promises.specs.States.{Goal, operational, preOperational, state, isIn, isInitialising, isLive, node, started, Reset, restored, atRest, missingReading, good, communication, Command, noCommand, toEnter, toReset, command, byteOf, commandOf}
+use Rattle.promises.specs.States.{Goal, operational, preOperational, state, isIn, isInitialising, isLive, node, started, Reset, restored, atRest, missingReading, good, communication, noCommand, toEnter, toReset, command, byteOf}
 use Rattle.promises.specs.WaitingLine.{Kind, emergency, sdoReply, number, may, bootUpFrame, frameOf}
 use Rattle.promises.specs.Timers.{inhibitTicks}
 use Rattle.promises.specs.Acts.{errorsAfter}

@@ -1,0 +1,102 @@
+//! The waiting line after a call: a kind goes when its condition ends, and joins when it is its moment and it may.
+ghost use mathlib.Core.Path.{_≡_};
+ghost use mathlib.Core.Bool.{false};
+ghost use Rattle.waiting.specs.Calls.{withdrawsIn, joinsIn};
+ghost use Rattle.promises.specs.WaitingLine.{those, flag, mays as maysOf};
+ghost use Rattle.promises.specs.Acts.{emergencyOnly, settledTo};
+ghost use Rattle.services.specs.Steps.{settledLine};
+use crate::emergency;
+use crate::heartbeat;
+use crate::state;
+use crate::tpdo;
+use parts::Core;
+use parts::Flags;
+use parts::Head;
+use waiting::EMERGENCY;
+use waiting::HEARTBEAT;
+use waiting::Line;
+use waiting::SDO_REPLY;
+use waiting::TPDO1;
+use waiting::TPDO2;
+use waiting::join_if;
+use waiting::withdraw_if;
+
+// The emergency's moment is every call that does something.
+pub fn emergency_only() -> Flags
+    ensures { λ r. ⌜ r ≡ emergencyOnly ⌝ }
+{
+    Flags {
+        emergency: true,
+        reply: false,
+        heartbeat: false,
+        tpdo1: false,
+        tpdo2: false,
+    }
+}
+
+// The head with another core; `due` is whose moment it is.
+pub fn settled(head: Head, core: Core, due: Flags) -> Head
+    ensures { λ r. ⌜ r ≡ settledTo false head core due ⌝ }
+{
+    let before = head.core;
+    let waited = head.line;
+    let line = settle(waited, mays(before), mays(core), due);
+    Head { core, line }
+}
+
+// The kinds that can wait.
+fn mays(core: Core) -> Flags
+    ensures { λ r. ⌜ r ≡ maysOf core ⌝ }
+{
+    let state = core.nmt;
+    let settings = core.device.settings.communication;
+    let inhibit = core.timers.inhibit;
+    let good = core.device.reading.good;
+    Flags {
+        emergency: emergency::may(state, settings.emergency, inhibit, good, core.announced),
+        reply: state::is_live(state),
+        heartbeat: heartbeat::may(state, settings.heartbeat),
+        tpdo1: tpdo::may(state, settings.pdo1.identifier, good),
+        tpdo2: tpdo::may(state, settings.pdo2.identifier, good),
+    }
+}
+
+fn settle(line: Line, before: Flags, after: Flags, due: Flags) -> Line
+    ensures { λ r. ⌜ r ≡ settledLine line before after due ⌝ }
+{
+    let goes = Flags {
+        emergency: before.emergency & !after.emergency,
+        reply: before.reply & !after.reply,
+        heartbeat: before.heartbeat & !after.heartbeat,
+        tpdo1: before.tpdo1 & !after.tpdo1,
+        tpdo2: before.tpdo2 & !after.tpdo2,
+    };
+    let comes = Flags {
+        emergency: due.emergency & after.emergency,
+        reply: due.reply & after.reply,
+        heartbeat: due.heartbeat & after.heartbeat,
+        tpdo1: due.tpdo1 & after.tpdo1,
+        tpdo2: due.tpdo2 & after.tpdo2,
+    };
+    join_those(withdraw_those(line, goes), comes)
+}
+
+fn withdraw_those(line: Line, goes: Flags) -> Line
+    ensures { λ r. ⌜ r ≡ withdrawsIn line (those (flag goes)) ⌝ }
+{
+    let left = withdraw_if(line, goes.emergency, EMERGENCY);
+    let left = withdraw_if(left, goes.reply, SDO_REPLY);
+    let left = withdraw_if(left, goes.heartbeat, HEARTBEAT);
+    let left = withdraw_if(left, goes.tpdo1, TPDO1);
+    withdraw_if(left, goes.tpdo2, TPDO2)
+}
+
+fn join_those(line: Line, comes: Flags) -> Line
+    ensures { λ r. ⌜ r ≡ joinsIn line (those (flag comes)) ⌝ }
+{
+    let joined = join_if(line, comes.emergency, EMERGENCY);
+    let joined = join_if(joined, comes.reply, SDO_REPLY);
+    let joined = join_if(joined, comes.heartbeat, HEARTBEAT);
+    let joined = join_if(joined, comes.tpdo1, TPDO1);
+    join_if(joined, comes.tpdo2, TPDO2)
+}
