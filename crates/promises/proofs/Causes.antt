@@ -59,7 +59,7 @@ module _ (h : Head) (f : Received) (v : Valid h) where
   by-command x i (toEnter g) e = by (Cause h f) (isIn g (h .core)) (λ _. tt) (λ n. (record { hears = x; identifier = i; says = e }, n))
   by-command x i (toReset r) e = record { hears = x; identifier = i; says = e }
 
-  by-request : (x : Heard h f) → f .identifier ≡ 0x600 + node (h .core) → (eqb (f .length) 8 && isLive (h .core) && not (has line.sdoReply (h .line))) ≡ true → Requests h f
+  pub by-request : (x : Heard h f) → f .identifier ≡ 0x600 + node (h .core) → (eqb (f .length) 8 && isLive (h .core) && not (has line.sdoReply (h .line))) ≡ true → Requests h f
   by-request x i t =
       let free = not (has line.sdoReply (h .line)) in
       let u = both (eqb (f .length) 8 && isLive (h .core)) free t in

@@ -1,12 +1,20 @@
 -- Power-up and calls leave valid heads: what holds of every valid head holds of every reachable one.
+use Prim.Native.Nat.{ℕ, _≤_}
+use native.Mathlib.Omega.{arith}
+use lib.Dec.{leb}
 use mathlib.Core.Path.{_≡_, refl}
+use borrow.Author.Tests.{leb-true}
+use Rattle.cases.proofs.Cases.{by, both}
+use Rattle.entries.specs.declared.Identity.{Identity}
+use Rattle.dictionary.specs.Accepted.{within}
+use Rattle.dictionary.specs.Valid.{ValidIdentity}
 use mathlib.Core.List.{List, [], _∷_, _++_}
 use Rattle.parts.specs.declared.Head.{Head}
-use Rattle.promises.specs.Calls.{Call, step}
+use Rattle.parts.specs.declared.Answer.{Answer}
+use Rattle.promises.specs.Calls.{Call, step, noIdentity, poweredUp}
 use Rattle.promises.specs.Valid.{Valid}
 use Rattle.promises.specs.Histories.{after, PowerUp, powered, Reachable}
-use Rattle.promises.proofs.Valid.{valid-step}
-use Rattle.promises.proofs.Laws.{laws}
+use Rattle.promises.proofs.Valid.{valid-step, valid-started}
 
 pub after-append : (h : Head) (before cs : List Call) → after h (before ++ cs) ≡ after (after h before) cs
 after-append h [] cs = refl
@@ -16,8 +24,17 @@ pub valid-after : (h : Head) (cs : List Call) → Valid h → Valid (after h cs)
 valid-after h [] v = v
 valid-after h (c ∷ cs) v = valid-after (step h c) cs (valid-step h c v)
 
+pub powered-valid : (n : ℕ) (i : Identity) → ValidIdentity i → Valid (poweredUp n i .head)
+powered-valid n i v =
+    by (λ (a : Answer). Valid (a .head)) (within 1 127 n)
+    (λ e. let bounds = both (leb 1 n) (leb n 127) e in valid-started n i (leb-true _ _ (bounds .0)) (leb-true _ _ (bounds .1)) v)
+    (λ _. valid-started 1 noIdentity (omega arith) (omega arith) (record { vendor = least; product = least; revision = least; serial = least }))
+  where
+    least : 0 ≤ 0xFFFFFFFF
+    least = omega arith
+
 pub valid-powered : (p : PowerUp) → Valid (powered p)
-valid-powered p = laws .powered-valid (p .number) (p .identity) (p .fits)
+valid-powered p = powered-valid (p .number) (p .identity) (p .fits)
 
 pub valid-reachable : (h : Head) → Reachable h → Valid h
 valid-reachable h r = rw (r .so) (valid-after (powered (r .start)) (r .calls) (valid-powered (r .start)))

@@ -19,7 +19,7 @@ use Rattle.promises.specs.States.{operational, isIn, isInitialising, isL
 use Rattle.promises.specs.Acts.{Act, nothing}
 use Rattle.promises.specs.Calls.{receive, commanded, synchronised, requested, meant}
 use Rattle.promises.specs.Valid.{Valid}
-use Rattle.promises.specs.Laws.{NotMeant, remote, of-29-bits, not-booted, other-identifier, command-length, other-node, other-command, state-held, sync-length, sync-state, request-length, request-state, reply-waits, client-abort}
+use Rattle.promises.specs.Meant.{NotMeant, remote, of-29-bits, not-booted, other-identifier, command-length, other-node, other-command, state-held, sync-length, sync-state, request-length, request-state, reply-waits, client-abort}
 use Rattle.promises.proofs.Hearing.{heard-by}
 
 module _ (h : Head) (f : Received) where

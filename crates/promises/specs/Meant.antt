@@ -1,12 +1,13 @@
--- Which frames are meant for the head, in the words of 01's chapters "States" and "Service requests": an NMT command, and a service request that is served.
-use Prim.Native.Nat.{ℕ, _+_}
+-- Which frames are meant for the head, and which are not, in the words of 01's chapters "States", "The waiting line" (SYNC) and "Service requests".
+use Prim.Native.Nat.{ℕ, _+_, _<_, _≤_}
 use mathlib.Core.Path.{_≡_}
 use mathlib.Core.Bool.{true, false, _||_}
 use Rattle.can.specs.declared.Received.{Received}
 use Rattle.can.specs.Frame.{refusalOf}
+use Rattle.sdo.specs.Request.{aborting}
 use Rattle.sdo.specs.Service.{Due, confirmation, due}
 use Rattle.parts.specs.declared.Head.{Head}
-use Rattle.promises.specs.States.{operational, isIn, isInitialising, isLive, node, Command, commandOf}
+use Rattle.promises.specs.States.{Goal, operational, isIn, isInitialising, isLive, node, Reset, Command, noCommand, toEnter, toReset, command, byteOf, commandOf}
 use Rattle.promises.specs.WaitingLine.{sdoReply}
 use Rattle.promises.specs.Valid.{waits}
 
@@ -28,6 +29,47 @@ pub record Requests (h : Head) (f : Received) : Type 0 where
   pub length : f .length ≡ 8
   pub live : isLive (h .core) ≡ true
   pub free : waits h sdoReply ≡ false
+
+-- SYNC (080h, data, length 0 or 1, Operational only)
+pub record Synchronises (h : Head) (f : Received) : Type 0 where
+  pub hears : Heard h f
+  pub identifier : f .identifier ≡ 0x080
+  pub length : f .length ≤ 1
+  pub operational : isIn operational (h .core) ≡ true
+
+-- The frames that are meant for the head: commands that name another state, resets, SYNC, and service requests that get a reply.
+pub data MeantFor (h : Head) (f : Received) : Type 0 where
+  to-enter : (g : Goal) → Commands h f (toEnter g) → isIn g (h .core) ≡ false → MeantFor h f
+  to-reset : (r : Reset) → Commands h f (toReset r) → MeantFor h f
+  to-synchronise : Synchronises h f → MeantFor h f
+  to-serve : Requests h f → aborting (f .bytes) ≡ false → MeantFor h f
+
+-- Why a frame is not meant for the head.
+pub data NotMeant (h : Head) (f : Received) : Type 0 where
+  -- Out: remote frames, 29-bit identifiers
+  remote : f .remote ≡ true → NotMeant h f
+  of-29-bits : f .extended ≡ true → NotMeant h f
+  -- In Initialising frames have no effect
+  not-booted : isInitialising (h .core) ≡ true → NotMeant h f
+  other-identifier : (f .identifier ≡ 0x000 → ⊥) → (f .identifier ≡ 0x080 → ⊥) → (f .identifier ≡ 0x600 + node (h .core) → ⊥) → NotMeant h f
+  -- NMT command: identifier 000h, data, length 2,
+  command-length : f .identifier ≡ 0x000 → (f .length ≡ 2 → ⊥) → NotMeant h f
+  -- second byte 0 or N.
+  other-node : f .identifier ≡ 0x000 → (byteOf f 1 ≡ 0 → ⊥) → (byteOf f 1 ≡ node (h .core) → ⊥) → NotMeant h f
+  -- others have no effect,
+  other-command : f .identifier ≡ 0x000 → command (byteOf f 0) ≡ noCommand → NotMeant h f
+  -- nor does a command naming the present state
+  state-held : (g : Goal) → f .identifier ≡ 0x000 → command (byteOf f 0) ≡ toEnter g → isIn g (h .core) ≡ true → NotMeant h f
+  -- SYNC (080h, data, length 0 or 1, Operational only)
+  sync-length : f .identifier ≡ 0x080 → 1 < f .length → NotMeant h f
+  sync-state : f .identifier ≡ 0x080 → isIn operational (h .core) ≡ false → NotMeant h f
+  -- Identifier 600h+N, data, length 8, Pre-operational or Operational; otherwise no effect.
+  request-length : f .identifier ≡ 0x600 + node (h .core) → (f .length ≡ 8 → ⊥) → NotMeant h f
+  request-state : f .identifier ≡ 0x600 + node (h .core) → isLive (h .core) ≡ false → NotMeant h f
+  -- While a reply waits, a further request has no effect.
+  reply-waits : f .identifier ≡ 0x600 + node (h .core) → waits h sdoReply ≡ true → NotMeant h f
+  -- 4 abort (no effect, no reply)
+  client-abort : f .identifier ≡ 0x600 + node (h .core) → aborting (f .bytes) ≡ true → NotMeant h f
 
 -- what is due to it
 abbrev pub dueTo : Head → Received → Due
