@@ -60,7 +60,7 @@ module _ (h : Head) where
 
   fits-sample : (s : Sensor) → Here (meant h (sample s))
   fits-sample Missing = tt
-  fits-sample (Raw r) = by Here (ltb 1048575 r) (λ _. refl) (λ e. ltb-false 1048575 r e)
+  fits-sample (Raw r) = by Here _ (λ _. refl) (λ e. ltb-false 1048575 r e)
 
   pub fits : (x : Call) → Fits (isSlot x) c (meant h x)
   fits (receive f) = heard-by h f Here refl (λ x _. fits-command (commandOf (node c) f) (booted x)) (λ _ _. fits-sync (f .length)) (λ _ _. fits-request f)

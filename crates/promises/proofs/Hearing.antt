@@ -24,12 +24,12 @@ module _ (h : Head) (f : Received) (P : Act → Type 0) where
       → (Heard h f → f .identifier ≡ 0x600 + node c → P (requested h f))
       → P (meant h (receive f))
   heard-by none command sync request =
-      by P (eqb (refusalOf f) 0)
-      (λ u. by P (f .extended || f .remote || isInitialising c) (λ _. none)
+      by P _
+      (λ u. by P _ (λ _. none)
       (λ n. let x : Heard h f = record { unrefused = eqb-true (refusalOf f) 0 u; heard = n } in
-      by P (eqb (f .identifier) 0x000) (λ e. command x (eqb-true _ _ e))
-      (λ _. by P (eqb (f .identifier) 0x080) (λ e. sync x (eqb-true _ _ e))
-      (λ _. by P (eqb (f .identifier) (0x600 + node c)) (λ e. request x (eqb-true _ _ e)) (λ _. none)))))
+      by P _ (λ e. command x (eqb-true _ _ e))
+      (λ _. by P _ (λ e. sync x (eqb-true _ _ e))
+      (λ _. by P _ (λ e. request x (eqb-true _ _ e)) (λ _. none)))))
       (λ _. none)
 
 pub booted : {h : Head} {f : Received} → Heard h f → isInitialising (h .core) ≡ false

@@ -26,7 +26,7 @@ valid-after h (c ∷ cs) v = valid-after (step h c) cs (valid-step h c v)
 
 pub powered-valid : (n : ℕ) (i : Identity) → ValidIdentity i → Valid (poweredUp n i .head)
 powered-valid n i v =
-    by (λ (a : Answer). Valid (a .head)) (within 1 127 n)
+    by (λ (a : Answer). Valid (a .head)) _
     (λ e. let bounds = both (leb 1 n) (leb n 127) e in valid-started n i (leb-true _ _ (bounds .0)) (leb-true _ _ (bounds .1)) v)
     (λ _. valid-started 1 noIdentity (omega arith) (omega arith) (record { vendor = least; product = least; revision = least; serial = least }))
   where
