@@ -6,10 +6,10 @@ use mathlib.Core.Path.{_≡_, refl, sym, ap, _∙_}
 use mathlib.Core.Logic.{_↔_}
 use mathlib.Core.Bool.{Bool, true, false}
 use borrow.Author.Tests.{leb-true, ltb-true, ltb-false, lt-ltb, le-ltb}
+use Rattle.cases.specs.Tests.{within}
 use Rattle.cases.proofs.Cases.{by, both}
 use Rattle.can.specs.Frame.{badIdentifier, badLength}
 use Rattle.entries.specs.declared.Identity.{Identity}
-use Rattle.dictionary.specs.Accepted.{within}
 use Rattle.dictionary.specs.Valid.{ValidIdentity}
 use Rattle.parts.specs.declared.Head.{Head}
 use Rattle.parts.specs.declared.Answer.{Answer}

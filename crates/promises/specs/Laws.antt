@@ -4,10 +4,10 @@ use mathlib.Core.Path.{_≡_}
 use mathlib.Core.Logic.{_↔_}
 use mathlib.Core.Bool.{true, false, _||_}
 use mathlib.Core.List.{[]}
+use Rattle.cases.specs.Tests.{within}
 use Rattle.can.specs.declared.Received.{Received}
 use Rattle.can.specs.Frame.{badIdentifier, badLength, refusalOf}
 use Rattle.entries.specs.declared.Identity.{Identity}
-use Rattle.dictionary.specs.Accepted.{within}
 use Rattle.dictionary.specs.Valid.{ValidIdentity}
 use Rattle.sdo.specs.Request.{aborting}
 use Rattle.waiting.specs.Line.{places, first, Kinds}
