@@ -2,7 +2,7 @@
 use Prim.Native.Nat.{ℕ, _≤_}
 use native.Mathlib.Omega.{arith}
 use lib.Dec.{leb, ltb}
-use mathlib.Core.Path.{_≡_, refl, sym, ap, _∙_}
+use mathlib.Core.Path.{_≡_, refl, sym, ap}
 use mathlib.Core.Logic.{_↔_}
 use mathlib.Core.Bool.{Bool, true, false}
 use borrow.Author.Tests.{leb-true, ltb-true, ltb-false, lt-ltb, le-ltb}
@@ -15,9 +15,9 @@ use Rattle.parts.specs.declared.Head.{Head}
 use Rattle.parts.specs.declared.Answer.{Answer}
 use Rattle.promises.specs.WaitingLine.{emergency, may}
 use Rattle.promises.specs.Acts.{settledTo, act}
-use Rattle.promises.specs.Calls.{receive, tick, noIdentity, poweredUp, received, ticked, sampled, slotted}
+use Rattle.promises.specs.Calls.{receive, tick, noIdentity, poweredUp}
 use Rattle.promises.specs.Valid.{waits, Valid}
-use Rattle.promises.specs.Laws.{OneOutcome, Laws}
+use Rattle.promises.specs.Laws.{Laws}
 use Rattle.promises.proofs.Nothing.{step-nothing}
 use Rattle.promises.proofs.Valid.{valid-step, valid-started}
 use Rattle.promises.proofs.Refusals.{passes, fails, first-passes, second-passes, neither-passes, power-refusal, frame-refused, sample-refused, node-refused, node-taken}
@@ -41,9 +41,6 @@ emergency-exactly h v = same (waits h emergency) (may (h .core) emergency) (v .o
     same true u f g = sym (f refl)
     same false true f g = g refl
     same false false f g = refl
-
-one-outcome : {A : Type 0} (due : A) (Left : A → Type 0) → OneOutcome (λ r. (r ≡ due) × Left r)
-one-outcome due Left x y p q = p .0 ∙ sym (q .0)
 
 ↔-then : {A B C : Type 0} → A ↔ B → B ↔ C → A ↔ C
 ↔-then f g = (λ a. g .0 (f .0 a), λ c. f .1 (g .1 c))
@@ -83,9 +80,4 @@ laws =
       announces = announces;
       inhibit-runs = inhibit-runs;
       waits-rightly = λ h v. v .only;
-      one-power-up = λ n i. one-outcome (poweredUp n i) (λ r. Valid (r .head));
-      one-receive = λ h f. one-outcome (received h f) (λ r. Valid (r .head));
-      one-tick = λ h. one-outcome (ticked h) Valid;
-      one-sample = λ h s. one-outcome (sampled h s) (λ r. Valid (r .head));
-      one-slot = λ h. one-outcome (slotted h) (λ r. Valid (r .head));
     }

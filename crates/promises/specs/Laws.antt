@@ -2,11 +2,11 @@
 use Prim.Native.Nat.{ℕ, _+_, _<_, _≤_}
 use mathlib.Core.Path.{_≡_}
 use mathlib.Core.Logic.{_↔_}
-use mathlib.Core.Bool.{true, false, _||_}
+use mathlib.Core.Bool.{true, false}
 use mathlib.Core.List.{[]}
 use Rattle.cases.specs.Tests.{within}
 use Rattle.can.specs.declared.Received.{Received}
-use Rattle.can.specs.Frame.{badIdentifier, badLength, refusalOf}
+use Rattle.can.specs.Frame.{badIdentifier, badLength}
 use Rattle.entries.specs.declared.Identity.{Identity}
 use Rattle.dictionary.specs.Valid.{ValidIdentity}
 use Rattle.sdo.specs.Request.{aborting}
@@ -16,14 +16,13 @@ use Rattle.parts.specs.declared.Core.{Core}
 use Rattle.parts.specs.declared.Head.{Head}
 use Rattle.parts.specs.declared.Sensor.{Sensor}
 use Rattle.parts.specs.declared.Sensor.the-variants.{Missing, Raw}
-use Rattle.promises.specs.States.{Goal, operational, preOperational, state, isIn, isInitialising, isLive, node, started, Reset, restored, atRest, missingReading, good, communication, Command, noCommand, toEnter, toReset, command, byteOf, commandOf}
+use Rattle.promises.specs.States.{Goal, operational, preOperational, state, isIn, isInitialising, isLive, node, started, Reset, restored, atRest, missingReading, good, communication, noCommand, toEnter, toReset, command, byteOf}
 use Rattle.promises.specs.WaitingLine.{Kind, emergency, sdoReply, number, may, bootUpFrame, frameOf}
 use Rattle.promises.specs.Timers.{inhibitTicks}
 use Rattle.promises.specs.Acts.{errorsAfter}
 use Rattle.promises.specs.Calls.{Call, step, noIdentity, poweredUp, received, ticked, sampled, slotted}
 use Rattle.promises.specs.Valid.{waits, Valid}
 use Rattle.promises.specs.Meant.{Commands}
-use Rattle.promises.specs.Promised.{PowersUp, Receives, Ticks, Samples, Slots}
 
 -- Why a frame is not meant for the head.
 pub data NotMeant (h : Head) (f : Received) : Type 0 where
@@ -62,10 +61,6 @@ pub record Restarted (r : Reset) (before after : Core) : Type 0 where
   pub saved : after .device .saved ≡ before .device .saved
   pub reading : after .device .reading ≡ before .device .reading
   pub errors : after .device .errors ≡ before .device .errors
-
--- No second outcome satisfies a promise.
-abbrev pub OneOutcome : {A : Type 0} → (A → Type 0) → Type 0
-OneOutcome {A} Promise = (x y : A) → Promise x → Promise y → x ≡ y
 
 pub record Laws : Type 0 where
   -- Every head comes from power-up and is altered by calls only; .. power-up and each call are proved to leave one.
@@ -124,9 +119,3 @@ pub record Laws : Type 0 where
   pub inhibit-runs : (h : Head) (f : Received) → (f .identifier ≡ 0x000 → ⊥) → received h f .head .core .timers .inhibit ≡ h .core .timers .inhibit
   -- TPDO: .. Only when Operational, switched on (bit 31 of sub 1 is 0) and the reading is good may it join. And so each kind under its condition.
   pub waits-rightly : (h : Head) → Valid h → (k : Kind) → waits h k ≡ true → may (h .core) k ≡ true
-  -- For every input, refused ones too, a public call's promise determines the answer and the head afterwards.
-  pub one-power-up : (n : ℕ) (i : Identity) → OneOutcome (PowersUp n i)
-  pub one-receive : (h : Head) (f : Received) → OneOutcome (Receives h f)
-  pub one-tick : (h : Head) → OneOutcome (Ticks h)
-  pub one-sample : (h : Head) (s : Sensor) → OneOutcome (Samples h s)
-  pub one-slot : (h : Head) → OneOutcome (Slots h)
