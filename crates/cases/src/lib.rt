@@ -1,1 +1,1 @@
-//! Definitions and laws about a choice by a test. There is no code here.
+//! Definitions that several crates share, and laws about them: a choice by a test, a list in places. There is no code here.

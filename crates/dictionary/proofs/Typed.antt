@@ -7,6 +7,7 @@ use lib.Dec.{T, leb, ltb, lit<}
 use lib.IntN.{ℤ, pos, negsuc, natAbs}
 use lib.ListN.{length, getD, length-map}
 use borrow.Author.Tests.{leb-true}
+use Rattle.cases.specs.Tests.{within}
 use Rattle.cases.proofs.Cases.{by, both, either, Each, _▸_, end}
 use Rattle.can.specs.Signed.{twos}
 use Rattle.position.specs.declared.Profile.{Profile}
@@ -15,7 +16,7 @@ use Rattle.position.specs.Profile.{ValidProfile}
 use Rattle.position.proofs.Laws.{laws}
 use Rattle.entries.specs.declared.Device.{Device}
 use Rattle.entries.specs.Table.{Entry, missing, entries, table, rowAt}
-use Rattle.dictionary.specs.Accepted.{within, transmissionType}
+use Rattle.dictionary.specs.Accepted.{transmissionType}
 use Rattle.dictionary.specs.Reads.{noEntry}
 use Rattle.dictionary.specs.Valid.{ValidDevice}
 use Rattle.dictionary.proofs.Columns.{row-of}

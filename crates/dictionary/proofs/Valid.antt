@@ -5,6 +5,7 @@ use mathlib.Core.Path.{_≡_, sym, _∙_}
 use mathlib.Core.Bool.{true, false, not, _&&_, _||_}
 use lib.Dec.{eqb, leb}
 use borrow.Author.Tests.{ltb-true, leb-true, eqb-true, eq-eqb, not-false}
+use Rattle.cases.specs.Tests.{within}
 use Rattle.cases.proofs.Cases.{true-false, by, both, neither, Each, _▸_, end}
 use Rattle.position.specs.declared.Profile.{Profile}
 use Rattle.position.specs.Position.{bit, scalingBit}
@@ -17,7 +18,7 @@ use Rattle.entries.specs.declared.Device.{Device}
 use Rattle.entries.specs.declared.table.Row.{Row}
 use Rattle.entries.specs.Settings.{pdo}
 use Rattle.entries.specs.Table.{missing, entries, table, noRow, rowAt, key}
-use Rattle.dictionary.specs.Accepted.{within, emergencyIdentifier, pdoIdentifier, transmissionType, operatingParameters, pdoBarred, accepts, acceptsIn}
+use Rattle.dictionary.specs.Accepted.{emergencyIdentifier, pdoIdentifier, transmissionType, operatingParameters, pdoBarred, accepts, acceptsIn}
 use Rattle.dictionary.specs.Writes.{rangeFor, rescaledTo, written, Fits}
 use Rattle.dictionary.specs.Valid.{ValidPdo, ValidCommunication, ValidSettings, ValidDevice}
 use Rattle.dictionary.specs.Laws.{Takes}

@@ -1,9 +1,10 @@
 -- 01's chapter "Entries", the column of accepted values, and the states in which an entry can be written: steps 5 and 6 of "First that applies".
 use Prim.Native.Nat.{ℕ, _+_, _/_, _%_}
-use lib.Dec.{eqb, leb, ltb}
+use lib.Dec.{eqb, ltb}
 use mathlib.Core.Bool.{Bool, true, false, not, _&&_, _||_, cond}
 use mathlib.Core.List.{[], _∷_}
 use Rattle.cases.specs.Cases.{firstOf}
+use Rattle.cases.specs.Tests.{within}
 use Rattle.position.specs.Position.{bit, scalingBit}
 use Rattle.entries.specs.declared.Pdo.{Pdo}
 use Rattle.entries.specs.declared.Device.{Device}
@@ -11,9 +12,6 @@ use Rattle.entries.specs.declared.table.Row.{Row}
 use Rattle.entries.specs.declared.table.Accepted.{Accepted}
 use Rattle.entries.specs.declared.table.Accepted.the-variants.{Nothing, All, Only, Signature, Between, EmergencyIdentifier, PdoIdentifier, TransmissionType, OperatingParameters, BelowRange}
 use Rattle.entries.specs.Table.{missing, accepted, keyOf, key}
-
-abbrev pub within : ℕ → ℕ → ℕ → Bool
-within low high v = leb low v && leb v high
 
 -- switched on: bit 31 is 0
 abbrev pub on : ℕ → Bool

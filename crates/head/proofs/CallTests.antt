@@ -8,9 +8,9 @@ use borrow.Author.Tests.{lt-ltb, le-ltb, leb-true}
 use native.Mathlib.Omega.{arith}
 use Rattle.can.specs.declared.Received.{Received}
 use Rattle.can.specs.Frame.{refusalOf}
+use Rattle.cases.specs.Tests.{within}
 use Rattle.cases.proofs.Cases.{both}
 use Rattle.entries.specs.declared.Identity.{Identity}
-use Rattle.dictionary.specs.Accepted.{within}
 use Rattle.dictionary.specs.Valid.{ValidIdentity}
 use Rattle.waiting.specs.Line.{first}
 use Rattle.waiting.specs.Places.{takenIn}

@@ -1,4 +1,4 @@
--- Definitions that follow the code, between the contracts of its parts. Nobody has to believe them: the calls are proved to give what specs/Calls.antt says.
+-- Definitions that follow the code, between the contracts of its parts. Nobody has to believe them: the calls are proved to give what `promises` says (specs/Calls.antt).
 use Prim.Native.Nat.{ℕ}
 use lib.Dec.{eqb}
 use mathlib.Core.Path.{_≡_}

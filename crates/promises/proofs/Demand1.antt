@@ -10,7 +10,7 @@ use borrow.Author.Tests.{leb-true, leb-false, le-leb, ltb-true, ltb-false, lt-lt
 use Rattle.cases.proofs.Cases.{by, both, true-false}
 use Rattle.can.specs.declared.Received.{Received}
 use Rattle.can.specs.Frame.{badIdentifier, badLength}
-use Rattle.dictionary.specs.Accepted.{within}
+use Rattle.cases.specs.Tests.{within}
 use Rattle.sdo.specs.Reply.{replies}
 use Rattle.sdo.specs.Request.{aborting}
 use Rattle.sdo.specs.Service.{answer}

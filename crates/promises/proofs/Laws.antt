@@ -6,7 +6,7 @@ use Rattle.promises.specs.WaitingLine.{emergency, may}
 use Rattle.promises.specs.Acts.{settledTo, act}
 use Rattle.promises.specs.Calls.{tick, poweredUp, received, ticked, sampled, slotted}
 use Rattle.promises.specs.Valid.{waits, Valid}
-use Rattle.promises.specs.Laws.{OneOutcome, Laws}
+use Rattle.promises.specs.Laws.{Laws}
 use Rattle.promises.proofs.Nothing.{step-nothing}
 use Rattle.promises.proofs.Meant.{enters, resets, takes-raw, loses, leaves, reply-fixed, announces, inhibit-runs}
 use Rattle.promises.proofs.Slots.{answers, boots, none-waits, sends-first, none-exactly}
@@ -18,9 +18,6 @@ emergency-exactly h v = same (waits h emergency) (may (h .core) emergency) (v .o
     same true u f g = sym (f refl)
     same false true f g = g refl
     same false false f g = refl
-
-one-outcome : {A : Type 0} (due : A) (Left : A → Type 0) → OneOutcome (λ r. (r ≡ due) × Left r)
-one-outcome due Left x y p q = p .0 ∙ sym (q .0)
 
 pub laws : Laws
 unfolding act settledTo
@@ -42,9 +39,4 @@ laws =
       announces = announces;
       inhibit-runs = inhibit-runs;
       waits-rightly = λ h v. v .only;
-      one-power-up = λ n i. one-outcome (poweredUp n i) (λ r. Valid (r .head));
-      one-receive = λ h f. one-outcome (received h f) (λ r. Valid (r .head));
-      one-tick = λ h. one-outcome (ticked h) Valid;
-      one-sample = λ h s. one-outcome (sampled h s) (λ r. Valid (r .head));
-      one-slot = λ h. one-outcome (slotted h) (λ r. Valid (r .head));
     }

@@ -5,11 +5,11 @@ use mathlib.Core.Path.{_≡_, refl, sym, _∙_}
 use mathlib.Core.Logic.{_↔_}
 use mathlib.Core.Bool.{Bool, true, false, cond}
 use borrow.Author.Tests.{eqb-false, ne-eqb}
+use Rattle.cases.specs.Tests.{within}
 use Rattle.cases.proofs.Cases.{cond-ap, test, true-false}
 use Rattle.can.specs.declared.Received.{Received}
 use Rattle.can.specs.Frame.{refusalOf}
 use Rattle.entries.specs.declared.Identity.{Identity}
-use Rattle.dictionary.specs.Accepted.{within}
 use Rattle.parts.specs.declared.Head.{Head}
 use Rattle.parts.specs.declared.Answer.{Answer}
 use Rattle.parts.specs.declared.Sensor.{Sensor}

@@ -6,11 +6,11 @@ use mathlib.Core.Bool.{Bool, true, false, not, _&&_, _||_, cond}
 use mathlib.Core.List.{[], _∷_}
 use mathlib.Core.Option.{Option, none, some}
 use Rattle.cases.specs.Cases.{firstOf}
+use Rattle.cases.specs.Tests.{within}
 use Rattle.can.specs.declared.Frame.{Frame}
 use Rattle.can.specs.declared.Received.{Received}
 use Rattle.can.specs.Frame.{refusalOf}
 use Rattle.entries.specs.declared.Identity.{Identity}
-use Rattle.dictionary.specs.Accepted.{within}
 use Rattle.sdo.specs.declared.reply.Served.{Served}
 use Rattle.sdo.specs.Reply.{replies}
 use Rattle.sdo.specs.Service.{answer, due}

@@ -4,6 +4,7 @@ use mathlib.Core.Path.{_≡_}
 use mathlib.Core.Logic.{_↔_}
 use mathlib.Core.Bool.{true, false}
 use mathlib.Core.List.{[]}
+use Rattle.cases.specs.Tests.{within}
 use Rattle.can.specs.declared.Received.{Received}
 use Rattle.entries.specs.declared.Identity.{Identity}
 use Rattle.waiting.specs.Line.{places, first, Kinds}
@@ -19,7 +20,6 @@ use Rattle.promises.specs.Acts.{errorsAfter}
 use Rattle.promises.specs.Calls.{Call, step, received, ticked, sampled, slotted}
 use Rattle.promises.specs.Valid.{waits, Valid}
 use Rattle.promises.specs.Meant.{Commands}
-use Rattle.promises.specs.Promised.{PowersUp, Receives, Ticks, Samples, Slots}
 
 -- 81h sets all settings to the saved set; 82h only those below 2000h. Both enter Initialising, .. end any inhibit time and forget what was
 -- announced ("good" counts as announced). Reading and error list stay.
@@ -31,10 +31,6 @@ pub record Restarted (r : Reset) (before after : Core) : Type 0 where
   pub saved : after .device .saved ≡ before .device .saved
   pub reading : after .device .reading ≡ before .device .reading
   pub errors : after .device .errors ≡ before .device .errors
-
--- No second outcome satisfies a promise.
-abbrev pub OneOutcome : {A : Type 0} → (A → Type 0) → Type 0
-OneOutcome {A} Promise = (x y : A) → Promise x → Promise y → x ≡ y
 
 pub record Laws : Type 0 where
   -- slot (answers one frame, or none exactly if none waits)
@@ -70,9 +66,3 @@ pub record Laws : Type 0 where
   pub inhibit-runs : (h : Head) (f : Received) → (f .identifier ≡ 0x000 → ⊥) → received h f .head .core .timers .inhibit ≡ h .core .timers .inhibit
   -- TPDO: .. Only when Operational, switched on (bit 31 of sub 1 is 0) and the reading is good may it join. And so each kind under its condition.
   pub waits-rightly : (h : Head) → Valid h → (k : Kind) → waits h k ≡ true → may (h .core) k ≡ true
-  -- For every input, refused ones too, a public call's promise determines the answer and the head afterwards.
-  pub one-power-up : (n : ℕ) (i : Identity) → OneOutcome (PowersUp n i)
-  pub one-receive : (h : Head) (f : Received) → OneOutcome (Receives h f)
-  pub one-tick : (h : Head) → OneOutcome (Ticks h)
-  pub one-sample : (h : Head) (s : Sensor) → OneOutcome (Samples h s)
-  pub one-slot : (h : Head) → OneOutcome (Slots h)

@@ -5,6 +5,7 @@ use mathlib.Core.Bool.{Bool, true, false, _&&_, _||_, cond}
 use mathlib.Core.List.{[], _∷_}
 use lib.ListN.{getD}
 use Rattle.cases.specs.Cases.{firstOf}
+use Rattle.cases.specs.Padded.{pad}
 use Rattle.can.specs.declared.Received.{Received}
 use Rattle.entries.specs.declared.Communication.{Communication}
 use Rattle.entries.specs.declared.Identity.{Identity}
@@ -13,7 +14,6 @@ use Rattle.entries.specs.declared.Reading.{Reading}
 use Rattle.entries.specs.declared.Settings.{Settings}
 use Rattle.entries.specs.Settings.{factory}
 use Rattle.waiting.specs.Line.{places}
-use Rattle.waiting.specs.Places.{pad}
 use Rattle.parts.specs.declared.Nmt.{Nmt}
 use Rattle.parts.specs.declared.Clock.{Clock}
 use Rattle.parts.specs.declared.Timers.{Timers}

@@ -2,9 +2,10 @@
 use Prim.Native.Nat.{ℕ, suc, _+_, _-_, _/_}
 use lib.Dec.{eqb, ltb}
 use mathlib.Core.Bool.{Bool, not, _&&_, _||_, cond}
+use Rattle.cases.specs.Tests.{within}
 use Rattle.entries.specs.declared.Pdo.{Pdo}
 use Rattle.entries.specs.declared.Communication.{Communication}
-use Rattle.dictionary.specs.Accepted.{within, on}
+use Rattle.dictionary.specs.Accepted.{on}
 use Rattle.parts.specs.declared.Clock.{Clock}
 use Rattle.parts.specs.declared.Timers.{Timers}
 

@@ -4,13 +4,13 @@ use lib.Dec.{eqb}
 use mathlib.Core.Bool.{Bool, not, _&&_, Bool·beq, cond}
 use mathlib.Core.List.{List, [], _∷_}
 use Rattle.cases.specs.Cases.{firstOf}
+use Rattle.cases.specs.Padded.{pad}
 use Rattle.can.specs.declared.Frame.{Frame}
 use Rattle.can.specs.Number.{lowFirst}
 use Rattle.position.specs.Position.{position}
 use Rattle.dictionary.specs.Accepted.{on}
 use Rattle.waiting.specs.Line as line
 use Rattle.waiting.specs.Line.{order}
-use Rattle.waiting.specs.Places.{pad}
 use Rattle.waiting.specs.Calls.{thoseDue}
 use Rattle.parts.specs.declared.Nmt.{Nmt}
 use Rattle.parts.specs.declared.Core.{Core}

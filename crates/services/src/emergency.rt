@@ -1,7 +1,7 @@
 //! The emergency: when it waits, what it says, and the inhibit time that it starts.
 ghost use mathlib.Core.Path.{_≡_};
 ghost use Prim.Native.Nat.{_≤_};
-ghost use Rattle.waiting.specs.Places.{pad};
+ghost use Rattle.cases.specs.Padded.{pad};
 ghost use Rattle.promises.specs.WaitingLine.{mayAlert, emergencyBytes};
 ghost use Rattle.promises.specs.Timers.{inhibitTicks};
 ghost use Rattle.promises.specs.Acts.{announcing as announcingOf};

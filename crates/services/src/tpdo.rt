@@ -1,6 +1,6 @@
 //! The transmit PDOs: their types, what is counted of them, and when one is due.
 ghost use mathlib.Core.Path.{_≡_};
-ghost use Rattle.dictionary.specs.Accepted.{within};
+ghost use Rattle.cases.specs.Tests.{within};
 ghost use Rattle.promises.specs.WaitingLine.{mayShow};
 ghost use Rattle.promises.specs.States.{uncounted as uncountedClock};
 ghost use Rattle.promises.specs.Timers.{eventDue, syncDue, clockTicked, clockSynced, clockWritten};

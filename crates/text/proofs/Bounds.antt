@@ -5,10 +5,11 @@ use Prim.Native.Nat.{ℕ}
 use native.Mathlib.Omega.{arith}
 use lib.Dec.{eqb, leb}
 use lib.ListN.{length}
+use Rattle.cases.specs.Tests.{within}
 use Rattle.cases.proofs.Cases.{by, both, first-each, _▸_, end}
 use borrow.Author.Tests.{leb-true}
 use Rattle.text.specs.Ascii.{ascii}
-use Rattle.text.specs.Grammar.{hex, decimal, fields, between, same, malformed, value, isNumber, isPair, all, pairsFor, frameOf, ticksOf, sampleOf, slotOf, command, parsed}
+use Rattle.text.specs.Grammar.{hex, decimal, fields, same, malformed, value, isNumber, isPair, all, pairsFor, frameOf, ticksOf, sampleOf, slotOf, command, parsed}
 use Rattle.text.specs.Laws.{Within}
 use Rattle.text.specs.declared.Parsed.{Parsed}
 use Rattle.text.proofs.Numbers.{number-below}
@@ -31,9 +32,9 @@ frame-good (id ∷ len ∷ pairs) =
 ticks-good : (fs : List (List ℕ)) → Good (ticksOf fs)
 ticks-good [] = tt
 ticks-good (n ∷ []) =
-    by Good (isNumber decimal 4 n && between 1 1000 (value decimal n))
+    by Good (isNumber decimal 4 n && within 1 1000 (value decimal n))
     (λ e.
-    let (low, high) = both (leb 1 (value decimal n)) (leb (value decimal n) 1000) (both (isNumber decimal 4 n) (between 1 1000 (value decimal n)) e .1) in
+    let (low, high) = both (leb 1 (value decimal n)) (leb (value decimal n) 1000) (both (isNumber decimal 4 n) (within 1 1000 (value decimal n)) e .1) in
     (leb-true _ _ low, leb-true _ _ high))
     (λ _. tt)
 ticks-good (n ∷ more ∷ fs) = tt
@@ -63,6 +64,6 @@ command-good (key ∷ fs) =
     (frame-good fs ▸ ticks-good fs ▸ sample-good fs ▸ slot-good fs ▸ end)
     tt
 
-pub within : (l : List ℕ) → Within (parsed l .command)
+pub in-bounds : (l : List ℕ) → Within (parsed l .command)
 unfolding parsed
-within l = command-good (fields l)
+in-bounds l = command-good (fields l)

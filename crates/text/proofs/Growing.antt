@@ -7,11 +7,13 @@ use Prim.Native.Char.{code}
 use native.Mathlib.Omega.{arith}
 use lib.Dec.{eqb, ltb, eqb·suc-zero}
 use lib.ListN.{length, take, length-append}
+use Rattle.cases.specs.Padded.{pad}
 use Rattle.cases.proofs.Cases.{test, by, cond-ap}
+use Rattle.cases.proofs.Padded.{pad-put}
 use borrow.Author.Tests.{lt-ltb, le-ltb, ltb-true, ltb-false, ne-eqb}
-use Rattle.text.specs.Lines.{onto, lines, atMost, longest, pad, lineOf, blank, held, pushed, handed}
+use Rattle.text.specs.Lines.{onto, lines, atMost, longest, lineOf, blank, held, pushed, handed}
 use Rattle.text.specs.Grammar.{says, saysLine}
-use Rattle.text.proofs.Padded.{pad-put, pad-full, take-pad}
+use Rattle.text.proofs.Padded.{pad-full, take-pad}
 
 pub push-line : (l : List ℕ) (b : ℕ) → pushed (lineOf l) b ≡ lineOf (l ++ b ∷ [])
 unfolding pushed lineOf

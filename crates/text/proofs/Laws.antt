@@ -4,7 +4,7 @@ use lib.ListN.{length-take}
 use Rattle.text.specs.Printed.{frameText, noneText, refusalText}
 use Rattle.text.specs.Laws.{Laws}
 use Rattle.text.proofs.Growing.{push-line, held-line, says-line, handed-lines}
-use Rattle.text.proofs.Bounds.{within}
+use Rattle.text.proofs.Bounds.{in-bounds}
 use Rattle.text.proofs.Roundtrip.{one-line, frame-back, frame-short}
 
 pub laws : Laws
@@ -19,6 +19,6 @@ laws =
       held-refusal = λ n. held-line (refusalText n) (omega arith);
       one-line = one-line;
       says-line = says-line;
-      within = within;
+      within = in-bounds;
       frame-back = frame-back;
     }

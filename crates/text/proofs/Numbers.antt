@@ -10,16 +10,17 @@ use native.Mathlib.Omega.{arith}
 use lib.Dec.{ltb, leb, eqb·suc-zero}
 use lib.ListN.{length, drop, getD, drop-of-length-le}
 use lib.Seq.{drop-cons}
+use Rattle.cases.specs.Tests.{within}
 use Rattle.cases.proofs.Cases.{both}
 use borrow.Author.Tests.{eq-eqb, ne-eqb, lt-ltb, le-ltb, le-leb, lt-leb, ltb-true, leb-true}
-use Rattle.text.specs.Grammar.{between, digitOf, digits, value, valueFrom, isNumber}
+use Rattle.text.specs.Grammar.{digitOf, digits, value, valueFrom, isNumber}
 use Rattle.text.specs.Steps.{word, numberAt, closedBy}
 use Rattle.text.specs.declared.number.Number.{Number}
 use Rattle.text.specs.declared.number.Number.the-variants.{Is, Not}
 
 -- n digits with the value v are read, and w is left of the field
 abbrev numberFrom : ℕ → ℕ → ℕ → ℕ → ℕ → List ℕ → Number
-numberFrom base most at v n w = cond (digits base w && between 1 most (n + length w)) (Is (valueFrom base v w) (at + (n + length w))) Not
+numberFrom base most at v n w = cond (digits base w && within 1 most (n + length w)) (Is (valueFrom base v w) (at + (n + length w))) Not
 
 pub record Reading (base most at : ℕ) (l : List ℕ) (v n i : ℕ) : Type 0 where
   pub place : i ≡ at + n
@@ -93,7 +94,7 @@ from-below base k v (x ∷ xs) e h =
 
 pub number-below : (base most : ℕ) (w : List ℕ) → 0 < base → isNumber base most w ≡ true → value base w < base ^ most
 number-below base most w h e =
-    let (good, long) = both (digits base w) (between 1 most (length w)) e in
+    let (good, long) = both (digits base w) (within 1 most (length w)) e in
     let n : length w ≤ most = leb-true _ _ (both (leb 1 (length w)) (leb (length w) most) long .1) in
     let z : 0 < base ^ 0 = rw pow-zero (omega arith) in
     lt-of-lt-of-le (rw zero-add at (from-below base 0 0 w good z)) (pow-le-pow-right h n)

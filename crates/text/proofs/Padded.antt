@@ -1,20 +1,16 @@
 -- A list in n places: what it does not fill is 0, and no more than n can be taken. Assumes nothing.
-use mathlib.Core.Path.{_≡_, refl, sym, ap, _∙_}
+use mathlib.Core.Path.{_≡_, refl, sym, _∙_}
 use mathlib.Core.List.{List, [], _∷_, _++_}
-use Prim.Native.Nat.{ℕ, zero, suc, _≤_, _<_}
+use Prim.Native.Nat.{ℕ, zero, suc, _≤_}
 use native.Mathlib.Nat.{not-suc-le-zero, le-of-suc-le-suc}
 use native.Mathlib.Omega.{arith}
 use lib.Dec.{ltb}
-use lib.ListN.{length, take, set}
+use lib.ListN.{length, take}
 use lib.Seq.{take-all, length-take-le}
+use Rattle.cases.specs.Padded.{pad}
 use Rattle.cases.proofs.Cases.{by}
 use borrow.Author.Tests.{ltb-true, ltb-false}
-use Rattle.text.specs.Lines.{atMost, pad}
-
-pub pad-put : (n : ℕ) (l : List ℕ) (x : ℕ) → length l < n → set (pad n l) (length l) x ≡ pad n (l ++ x ∷ [])
-pad-put zero l x h = absurd (not-suc-le-zero h)
-pad-put (suc n) [] x h = refl
-pad-put (suc n) (y ∷ l) x h = ap {B = List ℕ} (λ r. y ∷ r) (pad-put n l x (le-of-suc-le-suc h))
+use Rattle.text.specs.Lines.{atMost}
 
 pub pad-full : (n : ℕ) (l m : List ℕ) → n ≤ length l → pad n (l ++ m) ≡ pad n l
 pad-full zero l m h = refl

@@ -7,15 +7,17 @@ use native.Mathlib.Numerals.{add-one}
 use native.Mathlib.Omega.{arith}
 use lib.Dec.{eqb}
 use lib.ListN.{length, drop, set, length-append, length-map}
+use Rattle.cases.specs.Padded.{pad}
+use Rattle.cases.specs.Tests.{within}
 use Rattle.cases.proofs.Cases.{true-false, test, both}
+use Rattle.cases.proofs.Padded.{pad-put}
 use borrow.Author.Tests.{lt-ltb, le-ltb, eq-eqb, ne-eqb, eqb-true}
-use Rattle.text.specs.Lines.{pad}
-use Rattle.text.specs.Grammar.{hex, digits, between, value, isNumber, isPair, all, pairsFor, framed, malformed}
+use Rattle.text.specs.Grammar.{hex, digits, value, isNumber, isPair, all, pairsFor, framed, malformed}
 use Rattle.text.specs.Steps.{word, behind, numberAt}
 use Rattle.text.specs.declared.Command.the-variants.{Frame}
 use Rattle.text.specs.declared.number.Number.{Number}
 use Rattle.text.specs.declared.number.Number.the-variants.{Is, Not}
-use Rattle.text.proofs.Padded.{pad-put, at-most}
+use Rattle.text.proofs.Padded.{at-most}
 use Rattle.text.proofs.Fields.{fields-word, fields-at, Numbered, numbered, no-number, bounded, others}
 
 -- n pairs, `done`, are read, the last ends at `at`, and their values stand in `bytes`
@@ -106,7 +108,7 @@ module _ {l : List ℕ} {before count at n : ℕ} {bytes : List ℕ} (w : Pairs 
           let g = w .long in
           let u = word (drop (at + 1) l) in
           let two : length u ≡ 2 = omega arith in
-          let pair : isPair u ≡ true = rw (both (digits hex u) (between 1 2 (length u)) (s .good) .0, eq-eqb (length u) 2 two) in
+          let pair : isPair u ≡ true = rw (both (digits hex u) (within 1 2 (length u)) (s .good) .0, eq-eqb (length u) 2 two) in
           let size : length (map (value hex) (w .done)) ≡ n = length-map (w .done) (value hex) ∙ g in
           record {
             done = w .done ++ u ∷ [];

@@ -4,11 +4,13 @@ use Prim.Native.Nat.{ℕ, _+_, _*_, _-_}
 use Prim.Native.Char.{code}
 use mathlib.Core.Bool.{Bool, true, false, _&&_, cond}
 use mathlib.Core.List.{List, [], _∷_, map}
-use lib.Dec.{eqb, ltb, leb}
+use lib.Dec.{eqb, ltb}
 use lib.ListN.{length}
 use Rattle.cases.specs.Cases.{firstOf}
+use Rattle.cases.specs.Tests.{within}
+use Rattle.cases.specs.Padded.{pad}
 use Rattle.text.specs.Ascii.{ascii}
-use Rattle.text.specs.Lines.{onto, atMost, longest, pad, held}
+use Rattle.text.specs.Lines.{onto, atMost, longest, held}
 use Rattle.text.specs.declared.Command.{Command}
 use Rattle.text.specs.declared.Command.the-variants.{Malformed, Frame, Ticks, Sample, Missing, Slot}
 use Rattle.text.specs.declared.Parsed.{Parsed}
@@ -19,17 +21,13 @@ abbrev pub fields : List ℕ → List (List ℕ)
 fields [] = [] ∷ []
 fields (x ∷ xs) = cond (eqb x (code " ")) ([] ∷ fields xs) (onto x (fields xs))
 
--- 1..1000 and the like, both ends counted
-abbrev pub between : ℕ → ℕ → ℕ → Bool
-between low high n = leb low n && leb n high
-
 -- hex digits of either case; 16 is no digit, of no base
 abbrev pub digitOf : ℕ → ℕ
 digitOf b =
     firstOf
-    ((between (code "0") (code "9") b, b - code "0")
-    ∷ (between (code "A") (code "F") b, b - code "A" + 10)
-    ∷ (between (code "a") (code "f") b, b - code "a" + 10)
+    ((within (code "0") (code "9") b, b - code "0")
+    ∷ (within (code "A") (code "F") b, b - code "A" + 10)
+    ∷ (within (code "a") (code "f") b, b - code "a" + 10)
     ∷ [])
     16
 
@@ -45,7 +43,7 @@ digits base (x ∷ xs) = ltb (digitOf x) base && digits base xs
 
 -- 1 to `most` digits
 abbrev pub isNumber : ℕ → ℕ → List ℕ → Bool
-isNumber base most w = digits base w && between 1 most (length w)
+isNumber base most w = digits base w && within 1 most (length w)
 
 -- the number in these digits, the first the highest, behind digits whose number is v
 abbrev pub valueFrom : ℕ → ℕ → List ℕ → ℕ
@@ -91,7 +89,7 @@ frameOf (id ∷ len ∷ pairs) =
 -- `T n` (1..4 digits, 1..1000 ticks)
 abbrev pub ticksOf : List (List ℕ) → Parsed
 ticksOf [] = malformed
-ticksOf (n ∷ []) = cond (isNumber decimal 4 n && between 1 1000 (value decimal n)) (only (Ticks (value decimal n))) malformed
+ticksOf (n ∷ []) = cond (isNumber decimal 4 n && within 1 1000 (value decimal n)) (only (Ticks (value decimal n))) malformed
 ticksOf (n ∷ more ∷ fs) = malformed
 
 -- two lines or fields with the same bytes

@@ -1,11 +1,12 @@
 -- The lines of an input, and how one is gathered byte by byte: 01's chapter "Worked numbers", "Session program".
 -- A line is the list of its bytes, without the 0Ah that ends it.
-use Prim.Native.Nat.{ℕ, zero, suc, _+_}
+use Prim.Native.Nat.{ℕ, _+_}
 use Prim.Native.Char.{code}
 use mathlib.Core.Bool.{true, cond}
 use mathlib.Core.List.{List, [], _∷_}
 use lib.Dec.{eqb, ltb}
 use lib.ListN.{length, take, set}
+use Rattle.cases.specs.Padded.{pad}
 use Rattle.text.specs.declared.line.Line.{Line}
 
 -- a byte in front of the first part
@@ -24,12 +25,6 @@ atMost most n = cond (ltb n most) n most
 -- Lines of at most 64 bytes
 abbrev pub longest : ℕ
 longest = 64
-
--- the first n of a list; 0 in the places that it does not reach
-abbrev pub pad : ℕ → List ℕ → List ℕ
-pad zero l = []
-pad (suc n) [] = 0 ∷ pad n []
-pad (suc n) (x ∷ l) = x ∷ pad n l
 
 -- what is kept of a line: its first 64 bytes, how many they are, and whether it is longer
 unfoldable pub lineOf : List ℕ → Line

@@ -5,9 +5,10 @@ use mathlib.Core.Path.{_≡_}
 use mathlib.Core.Bool.{true, false}
 use mathlib.Core.List.{List, [], _∷_, _++_}
 use lib.ListN.{replicate}
+use Rattle.cases.specs.Padded.{pad}
 use Rattle.can.specs.declared.Frame.{Frame as Sent}
 use Rattle.text.specs.Ascii.{ascii}
-use Rattle.text.specs.Lines.{lines, pad, lineOf}
+use Rattle.text.specs.Lines.{lines, lineOf}
 use Rattle.text.specs.Grammar.{parsed, says, made, only, malformed}
 use Rattle.text.specs.Printed.{frameText, noneText, refusalText}
 use Rattle.text.specs.declared.Command.the-variants.{Frame, Ticks, Sample, Missing, Slot}

@@ -1,22 +1,19 @@
 -- What holds of every input: `Laws`. Byte by byte the calls print what 01 has line by line, wherever the input is cut into chunks,
--- each leaves a valid head, and no second outcome satisfies what a call promises.
+-- and each leaves a valid head.
 use Prim.Native.Nat.{ℕ, _≤_, _<_}
 use mathlib.Core.Path.{_≡_}
 use mathlib.Core.List.{List, _++_}
 use lib.ListN.{length}
 use Rattle.parts.specs.declared.Head.{Head}
 use Rattle.promises.specs.Valid.{Valid}
-use Rattle.promises.specs.Laws.{OneOutcome}
 use Rattle.text.specs.Lines.{lines, longest, lineOf, blank, held}
 use Rattle.text.specs.Grammar.{says}
 use Rattle.text.specs.declared.Command.the-variants.{Malformed, Frame, Sample}
 use Rattle.text.specs.declared.line.Line.{Line}
 use Rattle.transcript.specs.declared.Session.{Session}
-use Rattle.transcript.specs.declared.Done.{Done}
 use Rattle.transcript.specs.Commands.{refused, obeyed}
 use Rattle.transcript.specs.Talk.{reply, talk, transcript}
 use Rattle.transcript.specs.Bytes.{replyOf, answered, session, started, fed, after, prints, closing}
-use Rattle.transcript.specs.Promised.{Starts, Answers, Feeds, Chunks, Closes}
 
 pub record Laws : Type 0 where
   -- what the bytes of an input print, one after the other, and its end: each line of the input in turn
@@ -43,9 +40,3 @@ pub record Laws : Type 0 where
   pub answer-valid : (h : Head) (r : Line) → Valid h → Valid (answered h r .head)
   pub byte-valid : (s : Session) (b : ℕ) → Valid (s .head) → Valid (fed s b .session .head)
   pub input-valid : (s : Session) (bs : List ℕ) → Valid (s .head) → Valid (after s bs .head)
-  -- For every input, refused ones too, a public call's promise determines the answer and the head afterwards.
-  pub one-start : OneOutcome Starts
-  pub one-answer : (h : Head) (l : Line) → OneOutcome (Answers h l)
-  pub one-feed : (s : Session) (b : ℕ) → OneOutcome (Feeds s b)
-  pub one-chunk : (s : Session) (input out : List ℕ) → OneOutcome (λ (r : Done × List ℕ). Chunks s input out (r .0) (r .1))
-  pub one-close : (s : Session) → OneOutcome (Closes s)

@@ -8,9 +8,10 @@ use native.Mathlib.Omega.{arith}
 use lib.Dec.{eqb}
 use lib.ListN.{length, drop}
 use borrow.Author.Tests.{eq-eqb, ne-eqb}
+use Rattle.cases.specs.Padded.{pad}
 use Rattle.cases.proofs.Cases.{by, by₂}
 use Rattle.waiting.specs.Line.{has, Kinds, join, withdraw, first}
-use Rattle.waiting.specs.Places.{pad, joinIn, withdrawIn, takenIn, waiting, Holds}
+use Rattle.waiting.specs.Places.{joinIn, withdrawIn, takenIn, waiting, Holds}
 use Rattle.waiting.specs.Calls.{withdraws, joins, after, withdrawsIn, joinsIn, afterIn, Named, none, more}
 use Rattle.waiting.proofs.Room.{withdraw-none, kinds-withdraw, kinds-join, room}
 

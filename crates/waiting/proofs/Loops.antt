@@ -1,18 +1,19 @@
 -- What a loop over n places says of `has`, `joinIn` and `withdraw`, from one place to the next. Assumes nothing.
-use mathlib.Core.Path.{_≡_, refl, sym, ap, _∙_}
+use mathlib.Core.Path.{_≡_, refl, sym, _∙_}
 use mathlib.Core.Bool.{true, false}
 use mathlib.Core.List.{List, [], _∷_, _++_, append-nil}
-use Prim.Native.Nat.{ℕ, zero, suc, _+_, _≤_, _<_}
-use native.Mathlib.Nat.{not-suc-le-zero, le-of-suc-le-suc}
+use Prim.Native.Nat.{ℕ, _+_, _≤_, _<_}
 use native.Mathlib.Numerals.{add-one}
 use native.Mathlib.Omega.{arith}
 use lib.Dec.{eqb}
 use lib.ListN.{length, take, drop, getD, set, drop-of-length-le, length-append}
 use lib.Seq.{drop-cons, take-suc, set-split, split-at, take-all, append-snoc}
 use borrow.Author.Tests.{eq-eqb, ne-eqb}
+use Rattle.cases.specs.Padded.{pad}
 use Rattle.cases.proofs.Cases.{cond-ap}
+use Rattle.cases.proofs.Padded.{pad-put}
 use Rattle.waiting.specs.Line.{has, withdraw}
-use Rattle.waiting.specs.Places.{joinIn, pad}
+use Rattle.waiting.specs.Places.{joinIn}
 
 -- A search for k: the places below i are passed.
 pub record Looking (n k : ℕ) (l : List ℕ) (i : ℕ) : Type 0 where
@@ -73,11 +74,6 @@ withdraw-append : (k : ℕ) (a b : List ℕ) → withdraw (a ++ b) k ≡ withdra
 withdraw-append k [] b = refl
 withdraw-append k (x ∷ xs) b =
     rw (withdraw-append k xs b) (sym (cond-ap (λ r. r ++ withdraw b k) (eqb x k) (withdraw xs k) (x ∷ withdraw xs k)))
-
-pad-put : (n : ℕ) (ws : List ℕ) (x : ℕ) → length ws < n → set (pad n ws) (length ws) x ≡ pad n (ws ++ x ∷ [])
-pad-put zero ws x h = absurd (not-suc-le-zero h)
-pad-put (suc n) [] x h = refl
-pad-put (suc n) (w ∷ ws) x h = ap {B = List ℕ} (λ r. w ∷ r) (pad-put n ws x (le-of-suc-le-suc h))
 
 module _ {n k i m : ℕ} {l made : List ℕ} (w : Withdrawing n k l made m i) (h : i < n) where
   fits : i < length l

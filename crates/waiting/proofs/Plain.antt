@@ -6,9 +6,9 @@ use mathlib.Core.List.{[], _∷_}
 use lib.Dec.{eqb}
 use borrow.Author.Needs.{needs}
 use borrow.Author.Tests.{eqb-true}
+use Rattle.cases.specs.Padded.{pad}
 use Rattle.cases.proofs.Cases.{true-false}
 use Rattle.waiting.specs.Line.{places, emergency, tpdo1, tpdo2}
-use Rattle.waiting.specs.Places.{pad}
 use Rattle.waiting.specs.Calls.{Named, none, more}
 use Rattle.waiting.specs.Worked.{allWait}
 use Rattle.waiting.specs.Trace.{Sound}

@@ -7,8 +7,9 @@ use mathlib.Core.Bool.{Bool, true, false, not, _&&_, _||_, cond}
 use mathlib.Core.List.{List, [], _∷_, _++_}
 use lib.Dec.{eqb}
 use lib.ListN.{length, drop}
+use Rattle.cases.specs.Padded.{pad}
 use Rattle.waiting.specs.Line.{places, order, has, Kinds, join, withdraw, first}
-use Rattle.waiting.specs.Places.{pad, joinIn, withdrawIn, takenIn, waiting, Holds}
+use Rattle.waiting.specs.Places.{joinIn, withdrawIn, takenIn, waiting, Holds}
 use Rattle.waiting.specs.Calls.{after, joinsIn, afterIn, ifDue, thoseDue, Named}
 
 -- some of a list, in its order

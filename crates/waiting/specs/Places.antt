@@ -1,18 +1,13 @@
 -- The line in places: "a small array of kind numbers". 0 is an empty place, and empty places stand behind the waiting kinds.
 -- Each function is that of specs/Line.antt, for every list of places, so that no call has to ask for a proper line.
-use Prim.Native.Nat.{ℕ, zero, suc}
+use Prim.Native.Nat.{ℕ}
 use mathlib.Core.Path.{_≡_}
 use mathlib.Core.Bool.{cond}
 use mathlib.Core.List.{List, [], _∷_}
 use lib.Dec.{eqb}
 use lib.ListN.{length}
+use Rattle.cases.specs.Padded.{pad}
 use Rattle.waiting.specs.Line.{Kinds, withdraw, first}
-
--- a line in n places, with 0 in those behind it
-abbrev pub pad : ℕ → List ℕ → List ℕ
-pad zero ws = []
-pad (suc n) [] = 0 ∷ pad n []
-pad (suc n) (x ∷ xs) = x ∷ pad n xs
 
 -- A kind joins at the end, which is the first empty place; one that waits already keeps its place.
 abbrev pub joinIn : List ℕ → ℕ → List ℕ

@@ -3,8 +3,9 @@ use Prim.Native.Nat.{ℕ}
 use mathlib.Core.Path.{_≡_}
 use mathlib.Core.Bool.{true, false}
 use mathlib.Core.List.{List, [], _∷_}
+use Rattle.cases.specs.Padded.{pad}
 use Rattle.waiting.specs.Line.{places, emergency, sdoReply, heartbeat, tpdo1, tpdo2, order, has, first}
-use Rattle.waiting.specs.Places.{pad, joinIn, withdrawIn, takenIn, waiting}
+use Rattle.waiting.specs.Places.{joinIn, withdrawIn, takenIn, waiting}
 use Rattle.waiting.specs.Calls.{joinsIn, withdrawsIn, afterIn, thoseDue}
 
 abbrev pub none : List ℕ

@@ -4,8 +4,9 @@ ghost use mathlib.Core.Path.{_≡_};
 ghost use mathlib.Core.List.{[]};
 ghost use Prim.Native.Nat.{_<_};
 ghost use lib.ListN.{set};
+ghost use Rattle.cases.specs.Padded.{pad};
 ghost use Rattle.waiting.specs.Line.{places, has, first as firstOf};
-ghost use Rattle.waiting.specs.Places.{pad, joinIn, withdrawIn, takenIn};
+ghost use Rattle.waiting.specs.Places.{joinIn, withdrawIn, takenIn};
 ghost use Rattle.waiting.specs.Calls.{ifDue, joinsIn, withdrawsIn};
 
 // The kinds. Several that join in one call join in the order of these numbers.

@@ -1,0 +1,1 @@
+//! No code: the contract of each public call leaves one outcome.
