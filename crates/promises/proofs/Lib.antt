@@ -16,4 +16,5 @@ pub mod Answers
 pub mod Withdrawals
 pub mod Laws
 pub mod Histories
+pub mod FiveSlots
 pub mod Worked

@@ -8,5 +8,6 @@ pub mod Meant
 pub mod Promised
 pub mod Histories
 pub mod Withdrawals
+pub mod FiveSlots
 pub mod Laws
 pub mod Worked
