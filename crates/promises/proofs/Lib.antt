@@ -13,8 +13,13 @@ pub mod Slots
 pub mod Meant
 pub mod Causes
 pub mod Answers
+pub mod Conditions
 pub mod Withdrawals
 pub mod Laws
 pub mod Histories
+pub mod Turns
+pub mod Departures
+pub mod BootUp
 pub mod FiveSlots
 pub mod Worked
+pub mod FullLine

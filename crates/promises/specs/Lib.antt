@@ -11,3 +11,4 @@ pub mod Withdrawals
 pub mod FiveSlots
 pub mod Laws
 pub mod Worked
+pub mod FullLine
