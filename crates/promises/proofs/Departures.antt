@@ -8,7 +8,6 @@ use borrow.Author.Tests.{eqb-true}
 use Rattle.cases.proofs.Cases.{both, test, true-false}
 use Rattle.waiting.specs.Line.{first}
 use Rattle.waiting.specs.Places.{waiting}
-use Rattle.waiting.specs.Trace as trace
 use Rattle.parts.specs.declared.Head.{Head}
 use Rattle.promises.specs.States.{isInitialising, one, two}
 use Rattle.promises.specs.WaitingLine.{Kind, emergency, sdoReply, heartbeat, tpdo, number, flag, may}
@@ -19,10 +18,9 @@ use Rattle.promises.specs.Withdrawals.{Withdrawal}
 use Rattle.promises.specs.FiveSlots.{Sends}
 use Rattle.promises.proofs.Waits.{waits-act, sends}
 use Rattle.promises.proofs.Valid.{valid-step}
-use Rattle.promises.proofs.Slots.{none-waits}
-use Rattle.promises.proofs.Meant.{core-step}
+use Rattle.promises.proofs.Slots.{answers, none-waits, sends-first}
+use Rattle.promises.proofs.Meant.{core-step, leaves}
 use Rattle.promises.proofs.Withdrawals.{listed, ended}
-use Rattle.promises.proofs.Laws.{laws}
 
 no-zero : (k : Kind) → 0 ≡ number k → ⊥
 no-zero emergency e = omega arith
@@ -44,15 +42,15 @@ was-sent true false e = true-false e
 was-sent false false e = true-false e
 
 module _ (h : Head) (v : Valid h) where
-  -- a kind that waits does not in Initialising
+  -- in Initialising no kind is first
   awake : (k : Kind) → first (waiting (h .line)) ≡ number k → isInitialising (h .core) ≡ false
   awake k e = test (isInitialising (h .core)) (λ i. absurd (no-zero k (ap first (sym (none-waits h v i)) ∙ e))) (λ i. i)
 
   pub sends-it : (c : Call) (k : Kind) → c ≡ slot → first (waiting (h .line)) ≡ number k → Sends h c k
-  sends-it c k s e = let x = laws .sends-first h v (awake k e) k e in record { is-slot = s; is-first = e; waited = x .0; answer = x .1 }
+  sends-it c k s e = let x = answers h (sends-first h v (awake k e) k e) in record { is-slot = s; is-first = e; waited = x .0; answer = x .1 }
 
   pub sent-gone : (c : Call) (k : Kind) → Sends h c k → waits (step h c) k ≡ false
-  sent-gone c k x = rw (x .is-slot) (laws .leaves h v (awake k (x .is-first)) k (x .is-first))
+  sent-gone c k x = rw (x .is-slot) (leaves h v (awake k (x .is-first)) k (x .is-first))
 
   pub withdrawn-gone : (c : Call) (k : Kind) → Withdrawal h c k → waits (step h c) k ≡ false
   withdrawn-gone c k x = test (waits (step h c) k) (λ y. true-false (sym (valid-step h c v .only k y) ∙ ended h v x)) (λ n. n)

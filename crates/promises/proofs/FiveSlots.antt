@@ -12,16 +12,15 @@ use Rattle.waiting.specs.Trace as trace
 use Rattle.waiting.proofs.Slots.{demand3}
 use Rattle.parts.specs.declared.Head.{Head}
 use Rattle.promises.specs.States.{isInitialising, node}
-use Rattle.promises.specs.WaitingLine.{Kind, number, frame}
+use Rattle.promises.specs.WaitingLine.{Kind, number}
 use Rattle.promises.specs.Acts.{Act, boot, idle, send, frameBy}
 use Rattle.promises.specs.Calls.{Call, slot, meant, step, isFrame, frameIn, slotted}
 use Rattle.promises.specs.Valid.{waits, Valid}
 use Rattle.promises.specs.Histories.{after, slots}
 use Rattle.promises.specs.FiveSlots.{LeavesBy, Answered, boot-up, kind, none, FiveSlots}
 use Rattle.promises.proofs.Valid.{valid-step}
-use Rattle.promises.proofs.Slots.{none-of, none-waits}
+use Rattle.promises.proofs.Slots.{none-of, none-waits, none-exactly as none-left}
 use Rattle.promises.proofs.Answers.{AtSlot, booting, idling, sending, at-slot}
-use Rattle.promises.proofs.Laws.{laws}
 use Rattle.promises.proofs.Histories.{valid-after, valid-reachable}
 use Rattle.promises.proofs.Turns.{machine, sound, runs-after, slots-slots}
 use Rattle.promises.proofs.Departures.{a-slot, sends-it, sent-gone, withdrawn-gone, only-so}
@@ -72,7 +71,7 @@ answers h v = by-act (meant h slot) (at-slot h v)
 
 none-exactly : (h : Head) → Valid h → (slotted h .waited ≡ false) ↔ ((isInitialising (h .core) ≡ false) × ((k : Kind) → waits h k ≡ false))
 none-exactly h v =
-    let x = laws .none-exactly h v in
+    let x = none-left h v in
     (λ e. (x .0 e .0, λ k. ap (has (number k)) (x .0 e .1)), λ u. x .1 (u .0, none-of (waiting (h .line)) (v .line .kinds) (λ k w. true-false (sym w ∙ u .1 k))))
 
 pub five-slots : FiveSlots

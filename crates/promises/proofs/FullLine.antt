@@ -14,6 +14,8 @@ pub full-line : FullLine
 unfolding entries table lookup shownAt written due act settledTo
 full-line =
     record {
+      no-slot = refl;
+      boots = refl;
       reachable =
           record {
             start =

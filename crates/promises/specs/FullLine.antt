@@ -54,7 +54,13 @@ Waits h ks = waiting (h .line) ≡ ks
 abbrev pub Takes : Head → Call → List ℕ → Type 0
 Takes h c ks = Waits (step h c) ks
 
+-- before boot-up frames have no effect, timers stand and samples are taken
+abbrev pub unheard : List Call
+unheard = asks ∷ command 0x01 ∷ command 0x81 ∷ sync ∷ tick ∷ sample (Raw 69637) ∷ sample Missing ∷ []
+
 pub record FullLine : Type 0 where
+  pub no-slot : slots unheard ≡ 0
+  pub boots : sent node1 (unheard ++ slot ∷ []) ≡ frame 0x701 1 (0x00 ∷ []) ∷ []
   pub reachable : Reachable full
   -- the heartbeat begins to wait behind four others
   pub before : Waits almost (emergency ∷ tpdo1 ∷ tpdo2 ∷ sdoReply ∷ [])
