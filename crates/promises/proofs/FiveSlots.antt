@@ -47,8 +47,8 @@ gone-first (c ∷ before) call rest h k v w n =
     })
     (λ z. record { before = []; call = c; rest = before ++ call ∷ rest; split = refl; early = omega arith; until = w; how = only-so h v c k w z; gone = z })
 
-within : {a b : ℕ} {h : Head} {k : Kind} {xs cs : List Call} → LeavesBy a h xs k → cs ≡ xs → a ≤ b → LeavesBy b h cs k
-within l e le =
+sooner : {a b : ℕ} {h : Head} {k : Kind} {xs cs : List Call} → LeavesBy a h xs k → cs ≡ xs → a ≤ b → LeavesBy b h cs k
+sooner l e le =
     record { before = l .before; call = l .call; rest = l .rest; split = e ∙ l .split; early = omega (arith, l .early, le); until = l .until; how = l .how; gone = l .gone }
 
 by-the-fifth : (h : Head) (cs : List Call) (k : Kind) → Valid h → waits h k ≡ true → places ≤ slots cs → LeavesBy places h cs k
@@ -59,7 +59,7 @@ by-the-fifth h cs k v w enough =
     let u : Valid g = rw there (valid-after h (l .before) v) in
     let n : waits (step g (l .call)) k ≡ false =
     ⊎-elim (λ x. sent-gone g u (l .call) k (sends-it g u (l .call) k (a-slot (l .call) (x .0)) (x .1))) (λ x. x .1) (l .how) in
-    within (gone-first (l .before) (l .call) (l .rest) h k v w (rw (← there) n)) (l .split) (omega (arith, l .early, slots-slots (l .before)))
+    sooner (gone-first (l .before) (l .call) (l .rest) h k v w (rw (← there) n)) (l .split) (omega (arith, l .early, slots-slots (l .before)))
 
 answers : (h : Head) → Valid h → Answered h (slotted h .waited) (slotted h .frame)
 answers h v = by-act (meant h slot) (at-slot h v)

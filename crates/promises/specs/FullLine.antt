@@ -12,7 +12,7 @@ use Rattle.parts.specs.declared.Sensor.the-variants.{Missing, Raw}
 use Rattle.promises.specs.WaitingLine.{frame}
 use Rattle.promises.specs.Calls.{Call, receive, tick, sample, slot, step}
 use Rattle.promises.specs.Histories.{after, slots, sent, Reachable}
-use Rattle.promises.specs.Worked.{node1, request, writes}
+use Rattle.promises.specs.Worked.{node1, request, missing, writes, inverted}
 
 abbrev pub received : ℕ → ℕ → List ℕ → Call
 received identifier length content = receive (record { identifier = identifier; extended = false; remote = false; length = length; bytes = content })
@@ -28,9 +28,9 @@ sync = received 0x080 0 (bytes 0 0 0 0 0 0 0 0)
 abbrev pub asks : Call
 asks = request (bytes 0x40 0x04 0x60 0x00 0 0 0 0)
 
--- 1017h = 1, missing told; then the reading is good, Operational is entered, a SYNC and a tick come
+-- missing told, inverted, 1017h = 1; then the reading is good, Operational is entered and a SYNC comes
 abbrev pub begun : List Call
-begun = slot ∷ slot ∷ writes (bytes 0x2B 0x17 0x10 0x00 0x01 0 0 0) ++ sample (Raw 69637) ∷ command 0x01 ∷ sync ∷ []
+begun = missing ++ inverted ++ writes (bytes 0x2B 0x17 0x10 0x00 0x01 0 0 0) ++ sample (Raw 69637) ∷ command 0x01 ∷ sync ∷ []
 
 abbrev pub unasked : Head
 unasked = after node1 (begun ++ tick ∷ [])
@@ -65,20 +65,21 @@ pub record FullLine : Type 0 where
   -- the heartbeat begins to wait behind four others
   pub before : Waits almost (emergency ∷ tpdo1 ∷ tpdo2 ∷ sdoReply ∷ [])
   pub begins : Waits full (emergency ∷ tpdo1 ∷ tpdo2 ∷ sdoReply ∷ heartbeat ∷ [])
-  -- and is the fifth that leaves
+  -- and is the fifth that leaves; 1,048,575 − 69,637 is 978,938, 0E EFFAh
   pub five : slots flood ≡ 5
   pub leaves : sent full flood
       ≡ frame 0x081 8 (bytes 0 0 0 0 0 0 0 0)
-      ∷ frame 0x181 4 (0x05 ∷ 0x10 ∷ 0x01 ∷ 0x00 ∷ [])
-      ∷ frame 0x281 4 (0x05 ∷ 0x10 ∷ 0x01 ∷ 0x00 ∷ [])
-      ∷ frame 0x581 8 (bytes 0x43 0x04 0x60 0x00 0x05 0x10 0x01 0x00)
+      ∷ frame 0x181 4 (0xFA ∷ 0xEF ∷ 0x0E ∷ 0x00 ∷ [])
+      ∷ frame 0x281 4 (0xFA ∷ 0xEF ∷ 0x0E ∷ 0x00 ∷ [])
+      ∷ frame 0x581 8 (bytes 0x43 0x04 0x60 0x00 0xFA 0xEF 0x0E 0x00)
       ∷ frame 0x701 1 (0x05 ∷ [])
       ∷ []
-  -- 81h, 82h; 02h; 80h; a missing sample, which was the reading last announced
+  -- 81h, 82h; 02h; 80h; a missing sample, missing being announced last, and a good one after power-up
   pub resets : Takes full (command 0x81) [] × Takes full (command 0x82) []
   pub stops : Takes full (command 0x02) (heartbeat ∷ [])
   pub leaves-operational : Takes full (command 0x80) (emergency ∷ sdoReply ∷ heartbeat ∷ [])
-  pub missing : Takes full (sample Missing) (sdoReply ∷ heartbeat ∷ [])
+  pub loses : Takes full (sample Missing) (sdoReply ∷ heartbeat ∷ [])
+  pub finds : Waits (after node1 (slot ∷ [])) (emergency ∷ []) × Takes (after node1 (slot ∷ [])) (sample (Raw 69637)) []
   -- 1800-1 = 8000 0181h, 1801-1 = 8000 0281h, 1017h = 0, 1014h = 8000 0081h, each with its reply
   pub unasked-line : Waits unasked (emergency ∷ tpdo1 ∷ tpdo2 ∷ heartbeat ∷ [])
   pub switches-off : Takes unasked (request (bytes 0x23 0x00 0x18 0x01 0x81 0x01 0x00 0x80)) (emergency ∷ tpdo2 ∷ heartbeat ∷ sdoReply ∷ [])

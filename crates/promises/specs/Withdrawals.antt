@@ -31,6 +31,6 @@ pub data Withdrawal (h : Head) : Call → Kind → Type 0 where
   beats-no-more : {f : Received} → Writes h f 0x1017_00 0 → Withdrawal h (receive f) heartbeat
   -- the emergency goes when its condition below ends: Pre-operational and Operational are left as above, bit 31 of 1014h is set,
   silenced : {f : Received} {v : ℕ} → Writes h f 0x1014_00 v → on v ≡ false → Withdrawal h (receive f) emergency
-  -- or the present reading no longer differs from the one last announced. (An inhibit time begins by sending it, and so by no withdrawal.)
+  -- or the present reading, found or lost, no longer differs from the one last announced. (An inhibit time begins by sending it: no withdrawal.)
   found : {r : ℕ} → r ≤ 1048575 → h .core .announced ≡ true → Withdrawal h (sample (Raw r)) emergency
   lost : h .core .announced ≡ false → Withdrawal h (sample Missing) emergency
