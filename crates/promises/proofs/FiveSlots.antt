@@ -24,6 +24,7 @@ use Rattle.promises.proofs.Answers.{AtSlot, booting, idling, sending, a
 use Rattle.promises.proofs.Histories.{valid-after, valid-reachable}
 use Rattle.promises.proofs.Turns.{machine, sound, runs-after, slots-slots}
 use Rattle.promises.proofs.Departures.{a-slot, sends-it, sent-gone, withdrawn-gone, only-so}
+use Rattle.promises.proofs.Lined.{lined}
 use Rattle.promises.proofs.BootUp.{boots}
 
 -- the first call after which k no longer waits
@@ -81,6 +82,7 @@ five-slots =
       only-so = λ h r. only-so h (valid-reachable h r);
       withdrawn = λ h r. withdrawn-gone h (valid-reachable h r);
       sent = λ h r. sent-gone h (valid-reachable h r);
+      lines-up = λ h r c. lined h (valid-reachable h r) c;
       boots = λ h r i cs z. boots (node (h .core)) cs h (valid-reachable h r) (i, refl) z;
       answers = λ h r. answers h (valid-reachable h r);
       none-exactly = λ h r. none-exactly h (valid-reachable h r);

@@ -19,6 +19,7 @@ pub mod Laws
 pub mod Histories
 pub mod Turns
 pub mod Departures
+pub mod Lined
 pub mod BootUp
 pub mod FiveSlots
 pub mod Worked
