@@ -31,6 +31,7 @@ full-line =
       begins = refl;
       five = refl;
       leaves = refl;
+      several = (refl, refl);
       resets = (refl, refl);
       stops = refl;
       leaves-operational = refl;

@@ -74,6 +74,9 @@ pub record FullLine : Type 0 where
       ∷ frame 0x581 8 (bytes 0x43 0x04 0x60 0x00 0xFA 0xEF 0x0E 0x00)
       ∷ frame 0x701 1 (0x05 ∷ [])
       ∷ []
+  -- the emergency and TPDO1 join in one call: the command that leaves Stopped
+  pub several : Waits (after node1 (missing ++ command 0x02 ∷ sample (Raw 69637) ∷ [])) []
+      × Waits (after node1 (missing ++ command 0x02 ∷ sample (Raw 69637) ∷ command 0x01 ∷ [])) (emergency ∷ tpdo1 ∷ [])
   -- 81h, 82h; 02h; 80h; a missing sample, missing being announced last, and a good one after power-up
   pub resets : Takes full (command 0x81) [] × Takes full (command 0x82) []
   pub stops : Takes full (command 0x02) (heartbeat ∷ [])
