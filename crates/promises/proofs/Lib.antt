@@ -12,7 +12,16 @@ pub mod Unmeant
 pub mod Slots
 pub mod Meant
 pub mod Causes
+pub mod Answers
+pub mod Conditions
+pub mod Withdrawals
 pub mod Laws
 pub mod Histories
 pub mod Demand1
+pub mod Turns
+pub mod Departures
+pub mod Lined
+pub mod BootUp
+pub mod FiveSlots
 pub mod Worked
+pub mod FullLine

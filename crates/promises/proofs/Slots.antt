@@ -20,13 +20,13 @@ use Rattle.promises.specs.Calls.{slot, meant, sentBy, isFrame, frameIn, 
 use Rattle.promises.specs.Valid.{Valid}
 use Rattle.promises.proofs.States.{not-operational, not-live}
 
-no-may : (c : Core) (k : Kind) → isInitialising c ≡ true → may c k ≡ false
+pub no-may : (c : Core) (k : Kind) → isInitialising c ≡ true → may c k ≡ false
 no-may c emergency i = rw (not-live c i)
 no-may c sdoReply i = not-live c i
 no-may c heartbeat i = rw i
 no-may c (tpdo w) i = rw (not-operational c i)
 
-number-is : (x : ℕ) → 0 < x → x ≤ places → number (kindOf x) ≡ x
+pub number-is : (x : ℕ) → 0 < x → x ≤ places → number (kindOf x) ≡ x
 number-is zero p q = absurd (omega arith)
 number-is (suc zero) p q = refl
 number-is (suc (suc zero)) p q = refl
@@ -35,7 +35,7 @@ number-is (suc (suc (suc (suc zero)))) p q = refl
 number-is (suc (suc (suc (suc (suc zero))))) p q = refl
 number-is (suc (suc (suc (suc (suc (suc x)))))) p q = absurd (omega arith)
 
-none-of : (ws : List ℕ) → Kinds places ws → ((k : Kind) → has (number k) ws ≡ true → ⊥) → ws ≡ []
+pub none-of : (ws : List ℕ) → Kinds places ws → ((k : Kind) → has (number k) ws ≡ true → ⊥) → ws ≡ []
 none-of [] h n = refl
 none-of (x ∷ xs) h n = absurd (n (kindOf x) (rw (eq-eqb x (number (kindOf x)) (sym (number-is x (h .0) (h .1))))))
 

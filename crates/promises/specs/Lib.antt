@@ -8,5 +8,8 @@ pub mod Meant
 pub mod Promised
 pub mod Histories
 pub mod Demand1
+pub mod Withdrawals
+pub mod FiveSlots
 pub mod Laws
 pub mod Worked
+pub mod FullLine
