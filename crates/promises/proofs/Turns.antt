@@ -15,7 +15,7 @@ use Rattle.parts.specs.declared.Head.{Head}
 use Rattle.parts.specs.declared.Flags.{Flags}
 use Rattle.promises.specs.WaitingLine.{Kind, kindOf, flag, may}
 use Rattle.promises.specs.Acts.{acted, moments, goes, comes}
-use Rattle.promises.specs.Calls.{Call, slot, isSlot, meant, step}
+use Rattle.promises.specs.Calls.{Call, isSlot, meant, step}
 use Rattle.promises.specs.Valid.{Valid}
 use Rattle.promises.specs.Histories.{after, slots}
 use Rattle.promises.proofs.Waits.{holds-act}
