@@ -14,4 +14,5 @@ pub mod Meant
 pub mod Causes
 pub mod Laws
 pub mod Histories
+pub mod Announced
 pub mod Worked

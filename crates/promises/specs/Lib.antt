@@ -7,5 +7,6 @@ pub mod Valid
 pub mod Meant
 pub mod Promised
 pub mod Histories
+pub mod Gap
 pub mod Laws
 pub mod Worked
