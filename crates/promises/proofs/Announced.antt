@@ -2,17 +2,16 @@
 use Prim.Native.Nat.{ℕ, _+_, _/_, _%_, _≤_}
 use native.Mathlib.Omega.{arith}
 use lib.Dec.{eqb, leb, ltb}
-use lib.ListN.{getD}
-use mathlib.Core.Path.{_≡_, refl, sym, ap, subst, _∙_}
+use mathlib.Core.Path.{_≡_, refl, ap, _∙_}
 use mathlib.Core.Bool.{Bool, true, false, not, _&&_, _||_, cond, and-false}
 use mathlib.Core.List.{List, [], _∷_, _++_}
 use mathlib.Core.Option.{Option, none, some}
-use borrow.Author.Tests.{eqb-true, eqb-false, eq-eqb, ne-eqb, leb-true}
+use borrow.Author.Tests.{eqb-false, eq-eqb, ne-eqb, leb-true}
 use Rattle.cases.proofs.Cases.{by, by₂, test, both, true-false}
 use Rattle.can.specs.declared.Frame.{Frame}
 use Rattle.can.specs.declared.Received.{Received}
-use Rattle.entries.specs.declared.Pdo.{Pdo}
-use Rattle.dictionary.specs.Accepted.{within, on, pdoIdentifier}
+use Rattle.entries.specs.declared.Device.{Device}
+use Rattle.dictionary.specs.Accepted.{within, on}
 use Rattle.dictionary.specs.Writes.{written}
 use Rattle.dictionary.specs.Valid.{ValidPdo, ValidDevice}
 use Rattle.sdo.specs.declared.reply.Effect.{Effect}
@@ -25,13 +24,13 @@ use Rattle.parts.specs.declared.Core.{Core}
 use Rattle.parts.specs.declared.Head.{Head}
 use Rattle.parts.specs.declared.Answer.{Answer}
 use Rattle.parts.specs.declared.Sensor.the-variants.{Missing, Raw}
-use Rattle.promises.specs.States.{operational, code, isInitialising, node, communication, good as is-good, pdo, Which, one, two}
+use Rattle.promises.specs.States.{operational, code, isInitialising, node, communication, good, pdo, Which, one, two}
 use Rattle.promises.specs.WaitingLine.{Kind, emergency, sdoReply, heartbeat, tpdo, number, kindOf, may, bootUpFrame, frameOf}
 use Rattle.promises.specs.Acts.{Act, nothing, enter, reset, boot, idle, send, take, lose, time, sync, serve, sending, acted, frameBy}
 use Rattle.promises.specs.Calls.{Call, receive, tick, sample, slot, isSlot, meant, step, isFrame, frameIn}
 use Rattle.promises.specs.Valid.{waits, Valid}
 use Rattle.promises.specs.Histories.{after, frames, sent, PowerUp, powered}
-use Rattle.promises.specs.Gap.{nodeOf, isBootUp, isEmergency, lastAfter, lastEmergency, Said, unsaid, good, missing}
+use Rattle.promises.specs.Gap.{nodeOf, isBootUp, lastAfter, lastEmergency, Said, unsaid, said-good, said-missing}
 use Rattle.promises.proofs.Fits.{Fits, fits}
 use Rattle.promises.proofs.States.{Fresh}
 use Rattle.promises.proofs.Valid.{valid-step}
@@ -40,13 +39,14 @@ use Rattle.promises.proofs.Meant.{core-step}
 use Rattle.promises.proofs.Causes.{Cause, cause}
 use Rattle.promises.proofs.Histories.{valid-powered}
 
--- No call alters the node number.
-node-carried : (c : Core) (e : Effect) → carriedOut (c .device) e .node ≡ node c
+-- A request alters neither the node number nor the reading.
+pub carried : (d : Device) (e : Effect) → (carriedOut d e .node ≡ d .node) × (carriedOut d e .reading ≡ d .reading)
 unfolding written
-node-carried c Nothing = refl
-node-carried c Reply = refl
-node-carried c (Write k v) = refl
+carried d Nothing = (refl, refl)
+carried d Reply = (refl, refl)
+carried d (Write k v) = (refl, refl)
 
+-- No call alters the node number.
 node-act : (c : Core) (a : Act) → node (acted c a) ≡ node c
 node-act c nothing = refl
 node-act c (enter g) = refl
@@ -61,7 +61,7 @@ node-act c (take r) = refl
 node-act c lose = refl
 node-act c time = refl
 node-act c sync = refl
-node-act c (serve s) = node-carried c (s .effect)
+node-act c (serve s) = carried (c .device) (s .effect) .0
 
 pub node-step : (h : Head) (x : Call) → node (step h x .core) ≡ node (h .core)
 node-step h x = ap (λ c. node c) (core-step h x) ∙ node-act (h .core) (meant h x)
@@ -117,7 +117,7 @@ pub sent-waits : (h : Head) → Valid h → (x : Call) (k : Kind) → meant h x 
 sent-waits h v (receive f) k e = absurd (unsendable h v (receive f) k refl e)
 sent-waits h v tick k e = absurd (unsendable h v tick k refl e)
 sent-waits h v (sample s) k e = absurd (unsendable h v (sample s) k refl e)
-sent-waits h v slot k e = by (λ a. a ≡ send k → waits h k ≡ true) (isInitialising (h .core)) 
+sent-waits h v slot k e = by (λ a. a ≡ send k → waits h k ≡ true) (isInitialising (h .core))
     (λ _ q. let z : _≡_ {A = ℕ} 0 1 = cc in absurd (omega arith))
     (λ _. by (λ a. a ≡ send k → waits h k ≡ true) (eqb (first (h .line)) 0)
     (λ _ q. let z : _≡_ {A = ℕ} 0 1 = cc in absurd (omega arith))
@@ -136,7 +136,7 @@ module _ (c : Core) (v : ValidDevice (c .device)) where
   pub inside : (w : Which) → may c (tpdo w) ≡ true → within 0x181 0x57F (pdo (communication c) w .identifier) ≡ true
   inside w m =
       let i = pdo (communication c) w .identifier in
-      let shows = both (eqb (c .nmt .code) (code operational) && on i) (is-good c) m in
+      let shows = both (eqb (c .nmt .code) (code operational) && on i) (good c) m in
       let is-on = both (eqb (c .nmt .code) (code operational)) (on i) (shows .0) .1 in
       let accepted = both (eqb (i % 0x80000000 / 0x800) 0) (not (on i) || within 0x181 0x57F i) (valid-pdo w .identifier) in
       rw is-on at (accepted .1)
@@ -163,7 +163,7 @@ module _ (n : ℕ) (last : Option Frame) (c : Core) (q : node c ≡ n) (v : Vali
   says : (k : Kind) → isInitialising c ≡ false → may c k ≡ true → Announced n (lastAfter n last (frameOf c k ∷ [])) (sending c k)
   says emergency i m =
       λ _. rw (q, ne-eqb (0x80 + n) (0x700 + n) (λ e. omega arith), eq-eqb (0x80 + n) (0x80 + n) refl)
-      (test (is-good c) (λ e. rw e good) (λ e. rw e missing))
+      (test (good c) (λ e. rw e said-good) (λ e. rw e said-missing))
   says sdoReply i m = rw (mute n last (frameOf c sdoReply) (no-boot-up n (frameOf c sdoReply) (λ e. omega arith)) (λ e. omega arith)) s
   says heartbeat i m = rw (mute n last (frameOf c heartbeat) (rw i (simp and-false)) (λ e. omega arith)) s
   says (tpdo w) i m =

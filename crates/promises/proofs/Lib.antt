@@ -15,4 +15,7 @@ pub mod Causes
 pub mod Laws
 pub mod Histories
 pub mod Announced
+pub mod Relief
+pub mod Hidden
 pub mod Worked
+pub mod Busy

@@ -8,9 +8,7 @@ use mathlib.Core.Bool.{Bool, true, false, not, _&&_, _||_, cond}
 use mathlib.Core.List.{List, [], _∷_, _++_}
 use mathlib.Core.Option.{Option, none, some}
 use Rattle.can.specs.declared.Frame.{Frame}
-use Rattle.can.specs.declared.Received.{Received}
 use Rattle.dictionary.specs.Accepted.{within, on}
-use Rattle.parts.specs.declared.Core.{Core}
 use Rattle.parts.specs.declared.Head.{Head}
 use Rattle.parts.specs.declared.Sensor.the-variants.{Missing, Raw}
 use Rattle.promises.specs.States.{isInitialising, isLive, node, communication, byteOf}
@@ -54,8 +52,8 @@ saysGood n = frame (0x80 + n) 8 (0 ∷ 0 ∷ 0 ∷ 0 ∷ 0 ∷ 0 ∷ 0 ∷ 0 ∷
 -- What the last emergency frame said, true for good; good if there is none.
 pub data Said (n : ℕ) : Option Frame → Bool → Type 0 where
   unsaid : Said n none true
-  good : Said n (some (saysGood n)) true
-  missing : Said n (some (saysMissing n)) false
+  said-good : Said n (some (saysGood n)) true
+  said-missing : Said n (some (saysMissing n)) false
 
 -- The last two [kinds] are the position frames.
 abbrev pub showsPosition : Kind → Bool
@@ -104,8 +102,8 @@ heads h (c ∷ cs) = h ∷ heads (step h c) cs
 -- "stays missing, .. and with emergency messages on and no stop or reset": from the head h on, through the calls
 pub record Unrelieved (n : ℕ) (h : Head) (cs : List Call) : Type 0 where
   pub missing : among isGoodSample cs ≡ false
-  pub on : among isOff (heads h cs) ≡ false
-  pub going : among (isStopOrReset n) cs ≡ false
+  pub alerting : among isOff (heads h cs) ≡ false
+  pub running : among (isStopOrReset n) cs ≡ false
 
 pub record Gap : Type 0 where
   -- Power-up takes a node number N; no call alters it.

@@ -10,3 +10,4 @@ pub mod Histories
 pub mod Gap
 pub mod Laws
 pub mod Worked
+pub mod Busy
