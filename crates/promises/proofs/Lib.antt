@@ -12,6 +12,8 @@ pub mod Unmeant
 pub mod Slots
 pub mod Meant
 pub mod Causes
+pub mod Answers
+pub mod Withdrawals
 pub mod Laws
 pub mod Histories
 pub mod Announced

@@ -20,7 +20,7 @@ use Rattle.promises.specs.Calls.{slot, meant, sentBy, isFrame, frameIn, 
 use Rattle.promises.specs.Valid.{Valid}
 use Rattle.promises.proofs.States.{not-operational, not-live}
 
-no-may : (c : Core) (k : Kind) → isInitialising c ≡ true → may c k ≡ false
+pub no-may : (c : Core) (k : Kind) → isInitialising c ≡ true → may c k ≡ false
 no-may c emergency i = rw (not-live c i)
 no-may c sdoReply i = not-live c i
 no-may c heartbeat i = rw i

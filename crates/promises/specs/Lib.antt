@@ -7,7 +7,8 @@ pub mod Valid
 pub mod Meant
 pub mod Promised
 pub mod Histories
-pub mod Gap
+pub mod Withdrawals
 pub mod Laws
+pub mod Gap
 pub mod Worked
 pub mod Busy

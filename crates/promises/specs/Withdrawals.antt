@@ -1,0 +1,33 @@
+-- 01's list "Withdrawals, and no others", a clause for each of its lines: by which calls a kind goes unsent. Chapter "The waiting line".
+use Prim.Native.Nat.{ℕ}
+use mathlib.Core.Path.{_≡_}
+use mathlib.Core.Bool.{true, false}
+use Rattle.can.specs.declared.Received.{Received}
+use Rattle.dictionary.specs.Accepted.{on}
+use Rattle.parts.specs.declared.Head.{Head}
+use Rattle.parts.specs.declared.Sensor.the-variants.{Missing}
+use Rattle.promises.specs.States.{Goal, operational, stopped, isIn, Reset, toEnter, toReset, Which, one, two}
+use Rattle.promises.specs.WaitingLine.{Kind, emergency, heartbeat, tpdo, may}
+use Rattle.promises.specs.Calls.{Call, receive, sample, isSlot, step}
+use Rattle.promises.specs.Meant.{Commands, Writes}
+
+-- 1800-1, 1801-1
+abbrev pub identifierKey : Which → ℕ
+identifierKey one = 0x1800_01
+identifierKey two = 0x1801_01
+
+pub data Withdrawal (h : Head) : Call → Kind → Type 0 where
+  -- a reset takes all;
+  resets : {f : Received} {r : Reset} {k : Kind} → Commands h f (toReset r) → Withdrawal h (receive f) k
+  -- entering Stopped takes all but the heartbeat;
+  stops : {f : Received} {k : Kind} → Commands h f (toEnter stopped) → (k ≡ heartbeat → ⊥) → Withdrawal h (receive f) k
+  -- leaving Operational takes both PDOs; (a command naming the present state leaves none)
+  leaves : {f : Received} {g : Goal} {w : Which} → Commands h f (toEnter g) → isIn operational (h .core) ≡ true → isIn g (h .core) ≡ false → Withdrawal h (receive f) (tpdo w)
+  -- a missing sample takes both PDOs;
+  loses : {w : Which} → Withdrawal h (sample Missing) (tpdo w)
+  -- switching a PDO off takes that PDO;
+  switches-off : {f : Received} {v : ℕ} {w : Which} → Writes h f (identifierKey w) v → on v ≡ false → Withdrawal h (receive f) (tpdo w)
+  -- writing 0 to 1017h takes the heartbeat;
+  beats-no-more : {f : Received} → Writes h f 0x1017_00 0 → Withdrawal h (receive f) heartbeat
+  -- the emergency goes when its condition below ends. (A slot ends it too, by sending the emergency: no withdrawal.)
+  condition-ends : {c : Call} → isSlot c ≡ false → may (h .core) emergency ≡ true → may (step h c .core) emergency ≡ false → Withdrawal h c emergency
