@@ -16,6 +16,7 @@ pub mod Answers
 pub mod Withdrawals
 pub mod Laws
 pub mod Histories
+pub mod FiveSlots
 pub mod Announced
 pub mod Relief
 pub mod Hidden

@@ -35,7 +35,7 @@ number-is (suc (suc (suc (suc zero)))) p q = refl
 number-is (suc (suc (suc (suc (suc zero))))) p q = refl
 number-is (suc (suc (suc (suc (suc (suc x)))))) p q = absurd (omega arith)
 
-none-of : (ws : List ℕ) → Kinds places ws → ((k : Kind) → has (number k) ws ≡ true → ⊥) → ws ≡ []
+pub none-of : (ws : List ℕ) → Kinds places ws → ((k : Kind) → has (number k) ws ≡ true → ⊥) → ws ≡ []
 none-of [] h n = refl
 none-of (x ∷ xs) h n = absurd (n (kindOf x) (rw (eq-eqb x (number (kindOf x)) (sym (number-is x (h .0) (h .1))))))
 

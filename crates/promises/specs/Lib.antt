@@ -8,6 +8,7 @@ pub mod Meant
 pub mod Promised
 pub mod Histories
 pub mod Withdrawals
+pub mod FiveSlots
 pub mod Laws
 pub mod Gap
 pub mod Worked

@@ -1,0 +1,68 @@
+-- Demand 3, first sentence, and what a slot answers: of every head that comes from power-up, and every list of calls. 01's chapter "The waiting line".
+use Prim.Native.Nat.{ℕ, _+_, _<_, _≤_}
+use mathlib.Core.Path.{_≡_}
+use mathlib.Core.Logic.{_⊎_, _↔_}
+use mathlib.Core.Bool.{Bool, true, false}
+use mathlib.Core.List.{List, [], _∷_, _++_}
+use Rattle.can.specs.declared.Frame.{Frame}
+use Rattle.waiting.specs.Line.{first}
+use Rattle.waiting.specs.Places.{waiting}
+use Rattle.parts.specs.declared.Head.{Head}
+use Rattle.promises.specs.States.{isInitialising, node}
+use Rattle.promises.specs.WaitingLine.{Kind, number, frame, bootUpFrame, frameOf}
+use Rattle.promises.specs.Calls.{Call, slot, step, slotted, noFrame}
+use Rattle.promises.specs.Valid.{waits}
+use Rattle.promises.specs.Histories.{after, slots, Reachable}
+use Rattle.promises.specs.Withdrawals.{Withdrawal}
+
+-- A slot sends the first: the call is a slot, k is the first that waits, and the slot answers k's frame, made at the slot.
+pub record Sends (h : Head) (c : Call) (k : Kind) : Type 0 where
+  pub is-slot : c ≡ slot
+  pub is-first : first (waiting (h .line)) ≡ number k
+  pub waited : slotted h .waited ≡ true
+  pub answer : slotted h .frame ≡ frameOf (h .core) k
+
+-- k waits in the head, and after each of the calls
+abbrev pub WaitsThrough : Head → List Call → Kind → Type 0
+WaitsThrough h [] k = waits h k ≡ true
+WaitsThrough h (c ∷ cs) k = (waits h k ≡ true) × WaitsThrough (step h c) cs k
+
+-- One of the calls cs, with fewer than b slots before it, sends k or is a withdrawal of k; k waits until then, so that it is the same frame that
+-- leaves, and no more after it.
+pub record LeavesBy (b : ℕ) (h : Head) (cs : List Call) (k : Kind) : Type 0 where
+  pub before : List Call
+  pub call : Call
+  pub rest : List Call
+  pub split : cs ≡ before ++ call ∷ rest
+  pub early : slots before < b
+  pub until : WaitsThrough h before k
+  pub how : Sends (after h before) call k ⊎ Withdrawal (after h before) call k
+  pub gone : waits (step (after h before) call) k ≡ false
+
+-- slot (answers one frame, or none exactly if none waits): the boot-up frame in Initialising, else the frame of the first that waits.
+pub data Answered (h : Head) : Bool → Frame → Type 0 where
+  boot-up : isInitialising (h .core) ≡ true → waiting (h .line) ≡ [] → Answered h true (bootUpFrame (h .core))
+  kind : (k : Kind) → isInitialising (h .core) ≡ false → first (waiting (h .line)) ≡ number k → Answered h true (frameOf (h .core) k)
+  none : isInitialising (h .core) ≡ false → waiting (h .line) ≡ [] → Answered h false noFrame
+
+-- The head is in Initialising, no kind waits, and a slot answers the boot-up frame of node n (700h+N, one byte 00h).
+pub record BootUpWaits (n : ℕ) (h : Head) : Type 0 where
+  pub initialising : isInitialising (h .core) ≡ true
+  pub only : (k : Kind) → waits h k ≡ false
+  pub waited : slotted h .waited ≡ true
+  pub answer : slotted h .frame ≡ frame (0x700 + n) 1 (0x00 ∷ [])
+
+pub record FiveSlots : Type 0 where
+  -- A frame that begins to wait leaves by the fifth slot after that, no matter what is called between, unless a withdrawal takes it first.
+  -- (Of every head in which k waits, whenever it began: so of the head after the call by which it begins to wait.)
+  pub by-the-fifth : (h : Head) → Reachable h → (cs : List Call) (k : Kind) → waits h k ≡ true → 5 ≤ slots cs → LeavesBy 5 h cs k
+  -- Withdrawals, and no others: what waited and no longer waits was sent, or one of the list took it.
+  pub only-so : (h : Head) → Reachable h → (c : Call) (k : Kind) → waits h k ≡ true → waits (step h c) k ≡ false → Sends h c k ⊎ Withdrawal h c k
+  -- What one of the list takes no longer waits, nor does it join again in the same call; and so what is sent.
+  pub withdrawn : (h : Head) → Reachable h → (c : Call) (k : Kind) → Withdrawal h c k → waits (step h c) k ≡ false
+  pub sent : (h : Head) → Reachable h → (c : Call) (k : Kind) → Sends h c k → waits (step h c) k ≡ false
+  -- In Initialising .. only the boot-up frame .. waits: until the next slot, whatever is called before it, and that slot answers it.
+  pub boots : (h : Head) → Reachable h → isInitialising (h .core) ≡ true → (cs : List Call) → slots cs ≡ 0 → BootUpWaits (node (h .core)) (after h cs)
+  pub answers : (h : Head) → Reachable h → Answered h (slotted h .waited) (slotted h .frame)
+  -- none exactly if none waits: neither the boot-up frame nor a kind
+  pub none-exactly : (h : Head) → Reachable h → (slotted h .waited ≡ false) ↔ ((isInitialising (h .core) ≡ false) × ((k : Kind) → waits h k ≡ false))
