@@ -3,7 +3,7 @@ use Prim.Native.Nat.{ℕ, _+_, _/_, _%_, _≤_}
 use native.Mathlib.Omega.{arith}
 use lib.Dec.{eqb, leb, ltb}
 use mathlib.Core.Path.{_≡_, refl, ap, _∙_}
-use mathlib.Core.Bool.{Bool, true, false, not, _&&_, _||_, cond, and-false}
+use mathlib.Core.Bool.{Bool, true, false, not, _||_, cond, and-false}
 use mathlib.Core.List.{List, [], _∷_, _++_}
 use mathlib.Core.Option.{Option, none, some}
 use borrow.Author.Tests.{eqb-false, eq-eqb, ne-eqb, leb-true}
@@ -24,7 +24,7 @@ use Rattle.parts.specs.declared.Core.{Core}
 use Rattle.parts.specs.declared.Head.{Head}
 use Rattle.parts.specs.declared.Answer.{Answer}
 use Rattle.parts.specs.declared.Sensor.the-variants.{Missing, Raw}
-use Rattle.promises.specs.States.{operational, code, isInitialising, node, communication, good, pdo, Which, one, two}
+use Rattle.promises.specs.States.{isInitialising, node, communication, good, pdo, Which, one, two}
 use Rattle.promises.specs.WaitingLine.{Kind, emergency, sdoReply, heartbeat, tpdo, number, kindOf, may, bootUpFrame, frameOf}
 use Rattle.promises.specs.Acts.{Act, nothing, enter, reset, boot, idle, send, take, lose, time, sync, serve, sending, acted, frameBy}
 use Rattle.promises.specs.Calls.{Call, receive, tick, sample, slot, isSlot, meant, step, isFrame, frameIn}
@@ -37,6 +37,7 @@ use Rattle.promises.proofs.Valid.{valid-step}
 use Rattle.promises.proofs.Slots.{number-is}
 use Rattle.promises.proofs.Meant.{core-step}
 use Rattle.promises.proofs.Causes.{Cause, cause}
+use Rattle.promises.proofs.Withdrawals.{shows}
 use Rattle.promises.proofs.Histories.{valid-powered}
 
 -- A request alters neither the node number nor the reading.
@@ -136,10 +137,8 @@ module _ (c : Core) (v : ValidDevice (c .device)) where
   pub inside : (w : Which) → may c (tpdo w) ≡ true → within 0x181 0x57F (pdo (communication c) w .identifier) ≡ true
   inside w m =
       let i = pdo (communication c) w .identifier in
-      let shows = both (eqb (c .nmt .code) (code operational) && on i) (good c) m in
-      let is-on = both (eqb (c .nmt .code) (code operational)) (on i) (shows .0) .1 in
       let accepted = both (eqb (i % 0x80000000 / 0x800) 0) (not (on i) || within 0x181 0x57F i) (valid-pdo w .identifier) in
-      rw is-on at (accepted .1)
+      rw (shows c w m .is-on) at (accepted .1)
 
 last-append : (n : ℕ) (last : Option Frame) (xs ys : List Frame) → lastAfter n last (xs ++ ys) ≡ lastAfter n (lastAfter n last xs) ys
 last-append n last [] ys = refl

@@ -1,25 +1,45 @@
--- `Busy` of specs/Busy.antt, by computation, and by the theorems that it is an example of.
+-- `Busy` of specs/Busy.antt: what is asked for by computation, what is sent then by the theorems.
+use native.Mathlib.Omega.{arith}
 use mathlib.Core.Path.{refl}
 use Rattle.entries.specs.Table.{entries, table, lookup}
 use Rattle.dictionary.specs.Reads.{shownAt}
 use Rattle.dictionary.specs.Writes.{written}
 use Rattle.sdo.specs.Service.{due}
+use Rattle.parts.specs.declared.Sensor.the-variants.{Missing}
 use Rattle.promises.specs.Acts.{settledTo, act}
-use Rattle.promises.specs.Busy.{Busy}
+use Rattle.promises.specs.Calls.{sample, step}
+use Rattle.promises.specs.Histories.{after, PowerUp}
+use Rattle.promises.specs.Worked.{node1}
+use Rattle.promises.specs.Gap.{Unrelieved}
+use Rattle.promises.specs.Busy.{busy, flood, Busy}
+use Rattle.promises.proofs.Gap.{gap}
 
-pub busy : Busy
+-- `node1` of specs/Worked.antt
+powered-1 : PowerUp
+powered-1 =
+    record {
+      number = 1;
+      identity = record { vendor = 1; product = 2; revision = 3; serial = 4 };
+      fits = record { vendor = omega arith; product = omega arith; revision = omega arith; serial = omega arith };
+    }
+
+unrelieved : Unrelieved 1 (step (after node1 busy) (sample Missing)) flood
 unfolding entries table lookup shownAt written due act settledTo
-busy =
+unrelieved = record { missing = refl; alerting = refl; running = refl }
+
+pub busy-line : Busy
+unfolding entries table lookup shownAt written due act settledTo powered-1
+busy-line =
     record {
       before = refl;
       then = refl;
       live = refl;
       uninhibited = refl;
-      unrelieved = record { missing = refl; alerting = refl; running = refl };
+      unrelieved = unrelieved;
       five = refl;
       good = refl;
-      told = refl;
-      hidden = refl;
+      told = gap .missing-is-told powered-1 busy flood refl refl unrelieved (omega arith);
+      hidden = gap .no-position powered-1 busy flood refl;
       shown = refl;
       anew = refl;
     }

@@ -3,18 +3,18 @@ use Prim.Native.Nat.{_≤_}
 use native.Mathlib.Omega.{arith}
 use lib.Dec.{leb}
 use mathlib.Core.Path.{_≡_, refl, sym, ap, _∙_}
-use mathlib.Core.Bool.{Bool, true, false, _&&_, and-false}
+use mathlib.Core.Bool.{Bool, true, false, and-false}
 use mathlib.Core.List.{List, [], _∷_, _++_}
 use borrow.Author.Tests.{lt-leb}
-use Rattle.cases.proofs.Cases.{by, both, neither, true-false}
+use Rattle.cases.proofs.Cases.{by, neither, true-false}
 use Rattle.can.specs.declared.Frame.{Frame}
-use Rattle.dictionary.specs.Accepted.{within, on}
+use Rattle.dictionary.specs.Accepted.{within}
 use Rattle.dictionary.specs.Valid.{ValidDevice}
 use Rattle.parts.specs.declared.Core.{Core}
 use Rattle.parts.specs.declared.Head.{Head}
 use Rattle.parts.specs.declared.Answer.{Answer}
 use Rattle.parts.specs.declared.Sensor.the-variants.{Missing}
-use Rattle.promises.specs.States.{operational, isIn, communication, pdo, good}
+use Rattle.promises.specs.States.{good}
 use Rattle.promises.specs.WaitingLine.{Kind, emergency, sdoReply, heartbeat, tpdo, may, frameOf, bootUpFrame}
 use Rattle.promises.specs.Acts.{Act, nothing, enter, reset, boot, idle, send, take, lose, time, sync, serve, frameBy}
 use Rattle.promises.specs.Calls.{Call, sample, meant, step}
@@ -23,6 +23,7 @@ use Rattle.promises.specs.Histories.{after, frames, sent, PowerUp, power
 use Rattle.promises.specs.Gap.{among, isPosition, showsPosition, isGoodSample}
 use Rattle.promises.proofs.Valid.{valid-step}
 use Rattle.promises.proofs.Meant.{core-step}
+use Rattle.promises.proofs.Withdrawals.{shows}
 use Rattle.promises.proofs.Histories.{valid-after, valid-powered}
 use Rattle.promises.proofs.Relief.{no-relief, stays-missing}
 use Rattle.promises.proofs.Announced.{framed, frames-by, sent-waits, inside}
@@ -53,7 +54,7 @@ unshown : (c : Core) (k : Kind) → good c ≡ false → may c k ≡ true → sh
 unshown c emergency g m = refl
 unshown c sdoReply g m = refl
 unshown c heartbeat g m = refl
-unshown c (tpdo w) g m = true-false (sym (both (isIn operational c && on (pdo (communication c) w .identifier)) (good c) m .1) ∙ g)
+unshown c (tpdo w) g m = true-false (sym (shows c w m .is-good) ∙ g)
 
 -- and so none of what an act sends is a position frame
 hides : (c : Core) (a : Act) → ValidDevice (c .device) → ((k : Kind) → a ≡ send k → may c k ≡ true) → good c ≡ false → among isPosition (framed (frameBy c a)) ≡ false

@@ -20,5 +20,6 @@ pub mod FiveSlots
 pub mod Announced
 pub mod Relief
 pub mod Hidden
+pub mod Gap
 pub mod Worked
 pub mod Busy
