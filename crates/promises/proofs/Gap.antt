@@ -1,8 +1,8 @@
 -- `Gap` of specs/Gap.antt: no position frame leaves while the reading is missing, and missing is told.
 use Prim.Native.Nat.{ℕ, _≤_}
-use mathlib.Core.Path.{_≡_, refl, sym, _∙_}
+use mathlib.Core.Path.{_≡_, refl, sym, ap, _∙_}
 use mathlib.Core.Bool.{Bool, true, false}
-use mathlib.Core.List.{List, [], _∷_, _++_}
+use mathlib.Core.List.{List, [], _∷_, _++_, append-assoc}
 use mathlib.Core.Option.{Option, some}
 use mathlib.Core.Logic.{_⊎_, inl, inr, ⊎-elim}
 use borrow.Author.Tests.{not-false}
@@ -27,7 +27,8 @@ use Rattle.promises.proofs.Laws.{laws}
 use Rattle.promises.proofs.FiveSlots.{five-slots}
 use Rattle.promises.proofs.Histories.{after-append, valid-after, valid-powered}
 use Rattle.promises.proofs.Relief.{Relief, halted, restarted, no-relief, stays-missing}
-use Rattle.promises.proofs.Hidden.{finds, finds-no-boot-up, no-position, no-position-at-first}
+use Rattle.promises.proofs.Hidden.{no-position, no-position-at-first}
+use Rattle.promises.proofs.Known.{known, known-boot-up}
 use Rattle.promises.proofs.Announced.{node-step, node-after, node-powered, announced}
 
 -- Missing, and announced or not held back by an inhibit time.
@@ -166,6 +167,26 @@ module _ {n : ℕ} where
       rw (l .split, after-append h (l .before) (l .call ∷ l .rest)) (told-after (l .rest) m (told m (l .gone))))
       (λ w. told-after cs g (told g w))
 
+gap-is-told : (p : PowerUp) (before cs : List Call) → let h = after (powered p) before in
+    isLive (h .core) ≡ true
+    → good (h .core) ≡ false
+    → h .core .timers .inhibit ≡ 0
+    → Unrelieved (nodeOf p) h cs
+    → 5 ≤ slots cs
+    → lastEmergency (nodeOf p) (sent (powered p) (before ++ cs)) ≡ some (saysMissing (nodeOf p))
+gap-is-told p before cs live lost free u enough =
+    let h : Head = after (powered p) before in
+    let g : Gapped (nodeOf p) h cs = record {
+      valid = valid-after (powered p) before (valid-powered p);
+      its-node = node-after (powered p) before ∙ node-powered p;
+      pending = record { alive = live; lost = lost; free = inr free };
+      unrelieved = u;
+    } in
+    let e : after (powered p) (before ++ cs) ≡ after h cs = after-append (powered p) before cs in
+    let booted : isInitialising (after h cs .core) ≡ false =
+    test (isInitialising (after h cs .core)) (λ i. true-false (sym (live-after cs g) ∙ not-live (after h cs .core) i)) (λ i. i) in
+    says-so (announced p (before ++ cs) (rw e booted)) (rw e (told-by h (record { start = p; calls = before; so = refl }) cs g enough))
+
 missing-is-told : (p : PowerUp) (before cs : List Call) → let h = after (powered p) before in
     isLive (h .core) ≡ true
     → h .core .timers .inhibit ≡ 0
@@ -174,33 +195,28 @@ missing-is-told : (p : PowerUp) (before cs : List Call) → let h = after (power
     → lastEmergency (nodeOf p) (sent (powered p) (before ++ sample Missing ∷ cs)) ≡ some (saysMissing (nodeOf p))
 missing-is-told p before cs live free u enough =
     let h : Head = after (powered p) before in
-    let m : Head = step h (sample Missing) in
-    let c : m .core ≡ losing (h .core) = core-step h (sample Missing) in
-    let g : Gapped (nodeOf p) m cs = record {
-      valid = valid-step h (sample Missing) (valid-after (powered p) before (valid-powered p));
-      its-node = node-step h (sample Missing) ∙ node-after (powered p) before ∙ node-powered p;
-      pending = rw c (record { alive = live; lost = refl; free = inr free });
-      unrelieved = u;
-    } in
-    let r : Reachable m = record { start = p; calls = before ++ sample Missing ∷ []; so = sym (after-append (powered p) before (sample Missing ∷ [])) } in
-    let e : after (powered p) (before ++ sample Missing ∷ cs) ≡ after m cs = after-append (powered p) before (sample Missing ∷ cs) in
-    let booted : isInitialising (after m cs .core) ≡ false =
-    test (isInitialising (after m cs .core)) (λ i. true-false (sym (live-after cs g) ∙ not-live (after m cs .core) i)) (λ i. i) in
-    says-so (announced p (before ++ sample Missing ∷ cs) (rw e booted)) (rw e (told-by m r cs g enough))
+    let lost : List Call = before ++ sample Missing ∷ [] in
+    let e : after (powered p) lost ≡ step h (sample Missing) = after-append (powered p) before (sample Missing ∷ []) in
+    let c : after (powered p) lost .core ≡ losing (h .core) = ap (λ m. m .core) e ∙ core-step h (sample Missing) in
+    rw append-assoc at (gap-is-told p lost cs (ap isLive c ∙ live) (ap good c) (ap (λ d. d .timers .inhibit) c ∙ free) (rw e u) enough)
 
 pub gap : Gap
 gap =
     record {
-      same-node = λ p cs. node-after (powered p) cs ∙ node-powered p;
+      same-node = its-node;
       waits-exactly = λ p cs. laws .emergency-exactly (after (powered p) cs) (valid p cs);
       announced = announced;
-      forgotten = λ p cs i. valid p cs .fresh i .0;
-      known = λ p cs k w. let v = valid p cs in finds (after (powered p) cs .core) (v .device) k (v .only k w);
-      known-boot-up = λ p cs. finds-no-boot-up (after (powered p) cs .core) (valid p cs .device);
+      forgotten = λ p cs i. let f = valid p cs .fresh i in (f .0, ap (λ t. t .inhibit) (f .1));
+      known = λ p cs k w. let v = valid p cs in known (nodeOf p) (after (powered p) cs .core) (its-node p cs) (v .device) k (v .only k w);
+      known-boot-up = λ p cs. known-boot-up (nodeOf p) (after (powered p) cs .core) (its-node p cs) (valid p cs .device);
       no-position = no-position;
       no-position-at-first = no-position-at-first;
       missing-is-told = missing-is-told;
+      gap-is-told = gap-is-told;
     }
   where
     valid : (p : PowerUp) (cs : List Call) → Valid (after (powered p) cs)
     valid p cs = valid-after (powered p) cs (valid-powered p)
+
+    its-node : (p : PowerUp) (cs : List Call) → node (after (powered p) cs .core) ≡ nodeOf p
+    its-node p cs = node-after (powered p) cs ∙ node-powered p

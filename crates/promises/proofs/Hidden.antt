@@ -1,21 +1,16 @@
 -- No position frame leaves while the reading is missing.
-use Prim.Native.Nat.{_≤_}
-use native.Mathlib.Omega.{arith}
-use lib.Dec.{leb}
 use mathlib.Core.Path.{_≡_, refl, sym, ap, _∙_}
-use mathlib.Core.Bool.{Bool, true, false, and-false}
+use mathlib.Core.Bool.{Bool, true, false}
 use mathlib.Core.List.{List, [], _∷_, _++_}
-use borrow.Author.Tests.{lt-leb}
 use Rattle.cases.proofs.Cases.{by, neither, true-false}
-use Rattle.can.specs.declared.Frame.{Frame}
 use Rattle.dictionary.specs.Accepted.{within}
 use Rattle.dictionary.specs.Valid.{ValidDevice}
 use Rattle.parts.specs.declared.Core.{Core}
 use Rattle.parts.specs.declared.Head.{Head}
 use Rattle.parts.specs.declared.Answer.{Answer}
 use Rattle.parts.specs.declared.Sensor.the-variants.{Missing}
-use Rattle.promises.specs.States.{good}
-use Rattle.promises.specs.WaitingLine.{Kind, emergency, sdoReply, heartbeat, tpdo, may, frameOf, bootUpFrame}
+use Rattle.promises.specs.States.{node, good}
+use Rattle.promises.specs.WaitingLine.{Kind, emergency, sdoReply, heartbeat, tpdo, may}
 use Rattle.promises.specs.Acts.{Act, nothing, enter, reset, boot, idle, send, take, lose, time, sync, serve, frameBy}
 use Rattle.promises.specs.Calls.{Call, sample, meant, step}
 use Rattle.promises.specs.Valid.{Valid}
@@ -26,28 +21,11 @@ use Rattle.promises.proofs.Meant.{core-step}
 use Rattle.promises.proofs.Withdrawals.{shows}
 use Rattle.promises.proofs.Histories.{valid-after, valid-powered}
 use Rattle.promises.proofs.Relief.{no-relief, stays-missing}
-use Rattle.promises.proofs.Announced.{framed, frames-by, sent-waits, inside}
+use Rattle.promises.proofs.Known.{framed, frames-by, sent-waits, known, known-boot-up}
 
 among-append : {A : Type 0} (t : A → Bool) (xs ys : List A) → among t xs ≡ false → among t ys ≡ false → among t (xs ++ ys) ≡ false
 among-append t [] ys e f = f
 among-append t (x ∷ xs) ys e f = let n = neither (t x) (among t xs) e in rw (n .0) (among-append t xs ys (n .1) f)
-
--- `isPosition` finds the position frames, and no others.
-outside-below : (f : Frame) → f .identifier ≤ 0x180 → isPosition f ≡ false
-outside-below f l = rw (lt-leb 0x181 (f .identifier) (omega arith))
-
-outside-above : (f : Frame) → 0x580 ≤ f .identifier → isPosition f ≡ false
-outside-above f l = rw (lt-leb (f .identifier) 0x57F (omega arith)) (and-false (leb 0x181 (f .identifier)))
-
-module _ (c : Core) (v : ValidDevice (c .device)) where
-  pub finds : (k : Kind) → may c k ≡ true → isPosition (frameOf c k) ≡ showsPosition k
-  finds emergency m = outside-below (frameOf c emergency) (omega (arith, v .node-high))
-  finds sdoReply m = outside-above (frameOf c sdoReply) (omega arith)
-  finds heartbeat m = outside-above (frameOf c heartbeat) (omega arith)
-  finds (tpdo w) m = inside c v w m
-
-  pub finds-no-boot-up : isPosition (bootUpFrame c) ≡ false
-  finds-no-boot-up = outside-above (bootUpFrame c) (omega arith)
 
 -- while the reading is missing no position frame may wait
 unshown : (c : Core) (k : Kind) → good c ≡ false → may c k ≡ true → showsPosition k ≡ false
@@ -61,9 +39,9 @@ hides : (c : Core) (a : Act) → ValidDevice (c .device) → ((k : Kind) → a �
 hides c nothing v w g = refl
 hides c (enter o) v w g = refl
 hides c (reset r) v w g = refl
-hides c boot v w g = rw (finds-no-boot-up c v)
+hides c boot v w g = rw (known-boot-up (node c) c refl v .position)
 hides c idle v w g = refl
-hides c (send k) v w g = let m = w k refl in rw (finds c v k m, unshown c k g m)
+hides c (send k) v w g = let m = w k refl in rw (known (node c) c refl v k m .position, unshown c k g m)
 hides c (take r) v w g = refl
 hides c lose v w g = refl
 hides c time v w g = refl

@@ -17,6 +17,7 @@ pub mod Withdrawals
 pub mod Laws
 pub mod Histories
 pub mod FiveSlots
+pub mod Known
 pub mod Announced
 pub mod Relief
 pub mod Hidden

@@ -11,7 +11,7 @@ use Rattle.can.specs.declared.Frame.{Frame}
 use Rattle.dictionary.specs.Accepted.{within, on}
 use Rattle.parts.specs.declared.Head.{Head}
 use Rattle.parts.specs.declared.Sensor.the-variants.{Missing, Raw}
-use Rattle.promises.specs.States.{isInitialising, isLive, node, communication, byteOf}
+use Rattle.promises.specs.States.{isInitialising, isLive, node, communication, good, byteOf}
 use Rattle.promises.specs.WaitingLine.{Kind, emergency, sdoReply, heartbeat, tpdo, may, frame, bootUpFrame, frameOf}
 use Rattle.promises.specs.Calls.{Call, receive, tick, sample, slot, step}
 use Rattle.promises.specs.Valid.{waits}
@@ -55,7 +55,13 @@ pub data Said (n : ℕ) : Option Frame → Bool → Type 0 where
   said-good : Said n (some (saysGood n)) true
   said-missing : Said n (some (saysMissing n)) false
 
--- The last two [kinds] are the position frames.
+-- the kind whose frame is an emergency frame, and those whose are position frames: "the last two are the position frames"
+abbrev pub alerts : Kind → Bool
+alerts emergency = true
+alerts sdoReply = false
+alerts heartbeat = false
+alerts (tpdo w) = false
+
 abbrev pub showsPosition : Kind → Bool
 showsPosition emergency = false
 showsPosition sdoReply = false
@@ -65,6 +71,12 @@ showsPosition (tpdo w) = true
 -- a position frame, by its identifier: 181h..57Fh
 abbrev pub isPosition : Frame → Bool
 isPosition f = within 0x181 0x57F (f .identifier)
+
+-- what the tests say of a frame
+pub record Known (n : ℕ) (f : Frame) (boots alerts shows : Bool) : Type 0 where
+  pub boot-up : isBootUp n f ≡ boots
+  pub emergency : isEmergency n f ≡ alerts
+  pub position : isPosition f ≡ shows
 
 -- a good sample; one above 1,048,575 is refused
 abbrev pub isGoodSample : Call → Bool
@@ -114,11 +126,13 @@ pub record Gap : Type 0 where
   -- What is counted as announced is what the last emergency frame since boot-up said, good if none.
   pub announced : (p : PowerUp) (cs : List Call) → let h = after (powered p) cs in
       isInitialising (h .core) ≡ false → Said (nodeOf p) (lastEmergency (nodeOf p) (sent (powered p) cs)) (h .core .announced)
-  -- Both [resets] enter Initialising, .. and forget what was announced ("good" counts as announced).
-  pub forgotten : (p : PowerUp) (cs : List Call) → let h = after (powered p) cs in isInitialising (h .core) ≡ true → h .core .announced ≡ true
-  -- While a PDO is on its identifier is in 181h..57Fh, and no other frame's is: of the frames that can be sent, `isPosition` finds the position frames.
-  pub known : (p : PowerUp) (cs : List Call) (k : Kind) → let h = after (powered p) cs in waits h k ≡ true → isPosition (frameOf (h .core) k) ≡ showsPosition k
-  pub known-boot-up : (p : PowerUp) (cs : List Call) → isPosition (bootUpFrame (after (powered p) cs .core)) ≡ false
+  -- Both [resets] enter Initialising, .. end any inhibit time and forget what was announced ("good" counts as announced).
+  pub forgotten : (p : PowerUp) (cs : List Call) → let h = after (powered p) cs in
+      isInitialising (h .core) ≡ true → (h .core .announced ≡ true) × (h .core .timers .inhibit ≡ 0)
+  -- Of the frames that can be sent each test finds its own: no two have an identifier in common but the heartbeat and the boot-up frame, which differ in
+  -- the byte; and while a PDO is on its identifier is in 181h..57Fh.
+  pub known : (p : PowerUp) (cs : List Call) (k : Kind) → let h = after (powered p) cs in waits h k ≡ true → Known (nodeOf p) (frameOf (h .core) k) false (alerts k) (showsPosition k)
+  pub known-boot-up : (p : PowerUp) (cs : List Call) → Known (nodeOf p) (bootUpFrame (after (powered p) cs .core)) true false false
   -- From the missing sample to the next good one no position frame leaves at all.
   pub no-position : (p : PowerUp) (before cs : List Call) → among isGoodSample cs ≡ false
       → among isPosition (sent (after (powered p) before) (sample Missing ∷ cs)) ≡ false
@@ -133,3 +147,12 @@ pub record Gap : Type 0 where
       → Unrelieved (nodeOf p) (step h (sample Missing)) cs
       → 5 ≤ slots cs
       → lastEmergency (nodeOf p) (sent (powered p) (before ++ sample Missing ∷ cs)) ≡ some (saysMissing (nodeOf p))
+  -- So from each moment of a gap at which no inhibit time runs, not only from its sample: from the boot-up of a head without a reading, from the end of
+  -- an inhibit time.
+  pub gap-is-told : (p : PowerUp) (before cs : List Call) → let h = after (powered p) before in
+      isLive (h .core) ≡ true
+      → good (h .core) ≡ false
+      → h .core .timers .inhibit ≡ 0
+      → Unrelieved (nodeOf p) h cs
+      → 5 ≤ slots cs
+      → lastEmergency (nodeOf p) (sent (powered p) (before ++ cs)) ≡ some (saysMissing (nodeOf p))
