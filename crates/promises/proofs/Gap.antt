@@ -19,13 +19,14 @@ use Rattle.promises.specs.Calls.{Call, sample, meant, step}
 use Rattle.promises.specs.Valid.{waits, Valid}
 use Rattle.promises.specs.Histories.{after, slots, sent, PowerUp, powered, Reachable}
 use Rattle.promises.specs.FiveSlots.{LeavesBy}
-use Rattle.promises.specs.Gap.{nodeOf, among, lastEmergency, saysMissing, Said, unsaid, said-good, said-missing, isGoodSample, isStopOrReset, isOff, heads, Unrelieved, Gap}
+use Rattle.promises.specs.Gap.{nodeOf, among, lastEmergency, saysMissing, Said, unsaid, said-good, said-missing, isGoodSample, isCommand, stopsOrResets, isOff, heads, Unrelieved, Gap}
 use Rattle.promises.proofs.States.{not-live}
 use Rattle.promises.proofs.Valid.{valid-step}
 use Rattle.promises.proofs.Meant.{core-step, inhibit-after}
 use Rattle.promises.proofs.Laws.{laws}
 use Rattle.promises.proofs.FiveSlots.{five-slots}
 use Rattle.promises.proofs.Histories.{after-append, valid-after, valid-powered}
+use Rattle.promises.proofs.Inhibit.{inhibit-left}
 use Rattle.promises.proofs.Relief.{Relief, halted, restarted, no-relief, stays-missing}
 use Rattle.promises.proofs.Hidden.{no-position, no-position-at-first}
 use Rattle.promises.proofs.Known.{known, known-boot-up}
@@ -122,7 +123,7 @@ module _ {n : ℕ} where
   no-relief-now {h} {x} {cs} g =
       let u = g .unrelieved in
       no-relief n true h (g .its-node) (g .valid) x (neither (isGoodSample x) (among isGoodSample cs) (u .missing) .0)
-      (λ _. neither (isStopOrReset n x) (among (isStopOrReset n) cs) (u .running) .0)
+      (λ _. neither (isCommand n stopsOrResets x) (among (isCommand n stopsOrResets) cs) (u .running) .0)
 
   gapped-step : {h : Head} {x : Call} {cs : List Call} → Gapped n h (x ∷ cs) → Gapped n (step h x) cs
   gapped-step {h} {x} {cs} g =
@@ -134,7 +135,7 @@ module _ {n : ℕ} where
         unrelieved = record {
           missing = neither (isGoodSample x) (among isGoodSample cs) (u .missing) .1;
           alerting = neither (isOff h) (among isOff (heads (step h x) cs)) (u .alerting) .1;
-          running = neither (isStopOrReset n x) (among (isStopOrReset n) cs) (u .running) .1;
+          running = neither (isCommand n stopsOrResets x) (among (isCommand n stopsOrResets) cs) (u .running) .1;
         };
       }
 
@@ -205,6 +206,7 @@ gap =
     record {
       same-node = its-node;
       waits-exactly = λ p cs. laws .emergency-exactly (after (powered p) cs) (valid p cs);
+      inhibit-left = inhibit-left;
       announced = announced;
       forgotten = λ p cs i. let f = valid p cs .fresh i in (f .0, ap (λ t. t .inhibit) (f .1));
       known = λ p cs k w. let v = valid p cs in known (nodeOf p) (after (powered p) cs .core) (its-node p cs) (v .device) k (v .only k w);

@@ -19,6 +19,8 @@ pub mod Histories
 pub mod FiveSlots
 pub mod Known
 pub mod Announced
+pub mod Spoken
+pub mod Inhibit
 pub mod Relief
 pub mod Hidden
 pub mod Gap

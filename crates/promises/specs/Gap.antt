@@ -1,6 +1,6 @@
 -- "A gap has to arrive as a gap": what is told of a missing reading, and that no position frame leaves meanwhile. Demand 3's second and third sentence,
 -- and the emergency of 01's chapter "The waiting line", over every list of calls. Frames are known by identifier, length and bytes.
-use Prim.Native.Nat.{ℕ, _+_, _≤_}
+use Prim.Native.Nat.{ℕ, _+_, _-_, _≤_}
 use lib.Dec.{eqb, leb}
 use lib.ListN.{getD}
 use mathlib.Core.Path.{_≡_}
@@ -13,9 +13,10 @@ use Rattle.parts.specs.declared.Head.{Head}
 use Rattle.parts.specs.declared.Sensor.the-variants.{Missing, Raw}
 use Rattle.promises.specs.States.{isInitialising, isLive, node, communication, good, byteOf}
 use Rattle.promises.specs.WaitingLine.{Kind, emergency, sdoReply, heartbeat, tpdo, may, frame, bootUpFrame, frameOf}
+use Rattle.promises.specs.Timers.{inhibitTicks}
 use Rattle.promises.specs.Calls.{Call, receive, tick, sample, slot, step}
 use Rattle.promises.specs.Valid.{waits}
-use Rattle.promises.specs.Histories.{after, slots, sent, PowerUp, powered}
+use Rattle.promises.specs.Histories.{after, slots, frames, sent, PowerUp, powered}
 
 -- The node number N of power-up; one that is not 1..127 is refused, and leaves a head of node 1.
 abbrev pub nodeOf : PowerUp → ℕ
@@ -86,21 +87,37 @@ isGoodSample (sample Missing) = false
 isGoodSample (sample (Raw r)) = leb r 1048575
 isGoodSample slot = false
 
--- 02h Stopped, .. 81h reset node, 82h reset communication
-abbrev pub stopOrReset : ℕ → Bool
-stopOrReset b = eqb b 0x02 || eqb b 0x81 || eqb b 0x82
-
--- a stop or a reset of node n. NMT command: identifier 000h, data, length 2, second byte 0 or N. Out: remote frames, 29-bit identifiers.
-abbrev pub isStopOrReset : ℕ → Call → Bool
-isStopOrReset n (receive f) =
+-- NMT command: identifier 000h, data, length 2, second byte 0 or N; its first byte passes a test. Out: remote frames, 29-bit identifiers.
+abbrev pub isCommand : ℕ → (ℕ → Bool) → Call → Bool
+isCommand n t (receive f) =
     not (f .extended || f .remote)
     && eqb (f .identifier) 0x000
     && eqb (f .length) 2
     && (eqb (byteOf f 1) 0 || eqb (byteOf f 1) n)
-    && stopOrReset (byteOf f 0)
-isStopOrReset n tick = false
-isStopOrReset n (sample s) = false
-isStopOrReset n slot = false
+    && t (byteOf f 0)
+isCommand n t tick = false
+isCommand n t (sample s) = false
+isCommand n t slot = false
+
+-- 81h reset node, 82h reset communication
+abbrev pub resets : ℕ → Bool
+resets b = eqb b 0x81 || eqb b 0x82
+
+-- 02h Stopped
+abbrev pub stopsOrResets : ℕ → Bool
+stopsOrResets b = eqb b 0x02 || resets b
+
+-- The ticks that an inhibit time has to run after a call; t before it. Sending the emergency starts it, from 1015h; each tick it has one less to run;
+-- a reset ends it; writing 1015h doesn't alter a running one, nor does any other call.
+abbrev pub leftBy : ℕ → Head → Call → ℕ → ℕ
+leftBy n h (receive f) t = cond (isCommand n resets (receive f)) 0 t
+leftBy n h tick t = t - 1
+leftBy n h (sample s) t = t
+leftBy n h slot t = cond (among (isEmergency n) (frames h slot)) (inhibitTicks (communication (h .core) .inhibit)) t
+
+abbrev pub left : ℕ → Head → List Call → ℕ → ℕ
+left n h [] t = t
+left n h (x ∷ cs) t = left n (step h x) cs (leftBy n h x t)
 
 -- emergency messages are off: bit 31 of 1014h is 1
 abbrev pub isOff : Head → Bool
@@ -115,7 +132,7 @@ heads h (c ∷ cs) = h ∷ heads (step h c) cs
 pub record Unrelieved (n : ℕ) (h : Head) (cs : List Call) : Type 0 where
   pub missing : among isGoodSample cs ≡ false
   pub alerting : among isOff (heads h cs) ≡ false
-  pub running : among (isStopOrReset n) cs ≡ false
+  pub running : among (isCommand n stopsOrResets) cs ≡ false
 
 pub record Gap : Type 0 where
   -- Power-up takes a node number N; no call alters it.
@@ -123,6 +140,8 @@ pub record Gap : Type 0 where
   -- Emergency: waits exactly while the state is Pre-operational or Operational, bit 31 of 1014h is 0, no inhibit time runs, and the present reading
   -- (good or missing) differs from the one last announced.
   pub waits-exactly : (p : PowerUp) (cs : List Call) → let h = after (powered p) cs in waits h emergency ≡ may (h .core) emergency
+  -- .. no inhibit time runs: what is left of it, since the last emergency frame
+  pub inhibit-left : (p : PowerUp) (cs : List Call) → after (powered p) cs .core .timers .inhibit ≡ left (nodeOf p) (powered p) cs 0
   -- What is counted as announced is what the last emergency frame since boot-up said, good if none.
   pub announced : (p : PowerUp) (cs : List Call) → let h = after (powered p) cs in
       isInitialising (h .core) ≡ false → Said (nodeOf p) (lastEmergency (nodeOf p) (sent (powered p) cs)) (h .core .announced)
