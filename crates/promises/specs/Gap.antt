@@ -4,15 +4,15 @@ use Prim.Native.Nat.{ℕ, _+_, _-_, _≤_}
 use lib.Dec.{eqb, leb}
 use lib.ListN.{getD}
 use mathlib.Core.Path.{_≡_}
-use mathlib.Core.Bool.{Bool, true, false, not, _&&_, _||_, cond}
+use mathlib.Core.Bool.{Bool, true, false, not, _&&_, _||_, Bool·beq, cond}
 use mathlib.Core.List.{List, [], _∷_, _++_}
 use mathlib.Core.Option.{Option, none, some}
 use Rattle.can.specs.declared.Frame.{Frame}
 use Rattle.dictionary.specs.Accepted.{within, on}
 use Rattle.parts.specs.declared.Head.{Head}
 use Rattle.parts.specs.declared.Sensor.the-variants.{Missing, Raw}
-use Rattle.promises.specs.States.{isInitialising, isLive, node, communication, good, byteOf}
-use Rattle.promises.specs.WaitingLine.{Kind, emergency, sdoReply, heartbeat, tpdo, may, frame, bootUpFrame, frameOf}
+use Rattle.promises.specs.States.{preOperational, operational, isIn, isInitialising, isLive, node, communication, good, byteOf}
+use Rattle.promises.specs.WaitingLine.{Kind, emergency, sdoReply, heartbeat, tpdo, frame, bootUpFrame, frameOf}
 use Rattle.promises.specs.Timers.{inhibitTicks}
 use Rattle.promises.specs.Calls.{Call, receive, tick, sample, slot, step}
 use Rattle.promises.specs.Valid.{waits}
@@ -139,7 +139,8 @@ pub record Gap : Type 0 where
   pub same-node : (p : PowerUp) (cs : List Call) → node (after (powered p) cs .core) ≡ nodeOf p
   -- Emergency: waits exactly while the state is Pre-operational or Operational, bit 31 of 1014h is 0, no inhibit time runs, and the present reading
   -- (good or missing) differs from the one last announced.
-  pub waits-exactly : (p : PowerUp) (cs : List Call) → let h = after (powered p) cs in waits h emergency ≡ may (h .core) emergency
+  pub waits-exactly : (p : PowerUp) (cs : List Call) → let h = after (powered p) cs in let c = h .core in
+      waits h emergency ≡ ((isIn preOperational c || isIn operational c) && on (communication c .emergency) && eqb (c .timers .inhibit) 0 && not (Bool·beq (good c) (c .announced)))
   -- .. no inhibit time runs: what is left of it, since the last emergency frame
   pub inhibit-left : (p : PowerUp) (cs : List Call) → after (powered p) cs .core .timers .inhibit ≡ left (nodeOf p) (powered p) cs 0
   -- What is counted as announced is what the last emergency frame since boot-up said, good if none.
