@@ -26,7 +26,7 @@ use Rattle.promises.proofs.Meant.{core-step, inhibit-after}
 use Rattle.promises.proofs.Laws.{laws}
 use Rattle.promises.proofs.FiveSlots.{five-slots}
 use Rattle.promises.proofs.Histories.{after-append, valid-after, valid-powered}
-use Rattle.promises.proofs.Inhibit.{inhibit-left}
+use Rattle.promises.proofs.Inhibit.{inhibit-left, rounded-up}
 use Rattle.promises.proofs.Relief.{Relief, halted, restarted, no-relief, stays-missing}
 use Rattle.promises.proofs.Hidden.{no-position, no-position-at-first}
 use Rattle.promises.proofs.Known.{known, known-boot-up}
@@ -207,6 +207,8 @@ gap =
       same-node = its-node;
       waits-exactly = λ p cs. laws .emergency-exactly (after (powered p) cs) (valid p cs);
       inhibit-left = inhibit-left;
+      no-inhibit = refl;
+      rounded-up = rounded-up;
       announced = announced;
       forgotten = λ p cs i. let f = valid p cs .fresh i in (f .0, ap (λ t. t .inhibit) (f .1));
       known = λ p cs k w. let v = valid p cs in known (nodeOf p) (after (powered p) cs .core) (its-node p cs) (v .device) k (v .only k w);

@@ -1,9 +1,11 @@
 -- What is left of an inhibit time: started by sending the emergency, run down by ticks, ended by a reset, and altered by no other call.
-use Prim.Native.Nat.{ℕ, _-_}
+use Prim.Native.Nat.{ℕ, _+_, _-_, _*_, _/_, _<_, _≤_}
+use native.Mathlib.Omega.{arith}
 use lib.Dec.{ltb}
 use mathlib.Core.Path.{_≡_, refl, sym, ap, _∙_}
 use mathlib.Core.Bool.{true, false, cond}
 use mathlib.Core.List.{List, [], _∷_}
+use borrow.Author.Tests.{ne-eqb}
 use Rattle.cases.proofs.Cases.{by, test, true-false}
 use Rattle.can.specs.declared.Received.{Received}
 use Rattle.dictionary.specs.Accepted.{within}
@@ -92,3 +94,6 @@ pub inhibit-left : (p : PowerUp) (cs : List Call) → after (powered p) cs .core
 inhibit-left p cs =
     left-after (nodeOf p) cs (powered p) 0 (node-powered p) (valid-powered p)
     (by (λ (a : Answer). a .head .core .timers .inhibit ≡ 0) (within 1 127 (p .number)) (λ _. refl) (λ _. refl))
+
+pub rounded-up : (v : ℕ) → 0 < v → (t : ℕ) × (inhibitTicks v ≡ t + 1) × (v ≤ t * 10) × (t * 10 < v + 10)
+rounded-up v some = ((v + 9) / 10, rw (ne-eqb v 0 (λ e. omega arith)), omega arith, omega arith)

@@ -1,6 +1,6 @@
 -- "A gap has to arrive as a gap": what is told of a missing reading, and that no position frame leaves meanwhile. Demand 3's second and third sentence,
 -- and the emergency of 01's chapter "The waiting line", over every list of calls. Frames are known by identifier, length and bytes.
-use Prim.Native.Nat.{ℕ, _+_, _-_, _≤_}
+use Prim.Native.Nat.{ℕ, _+_, _-_, _*_, _<_, _≤_}
 use lib.Dec.{eqb, leb}
 use lib.ListN.{getD}
 use mathlib.Core.Path.{_≡_}
@@ -143,6 +143,9 @@ pub record Gap : Type 0 where
       waits h emergency ≡ ((isIn preOperational c || isIn operational c) && on (communication c .emergency) && eqb (c .timers .inhibit) 0 && not (Bool·beq (good c) (c .announced)))
   -- .. no inhibit time runs: what is left of it, since the last emergency frame
   pub inhibit-left : (p : PowerUp) (cs : List Call) → after (powered p) cs .core .timers .inhibit ≡ left (nodeOf p) (powered p) cs 0
+  -- for 1015h = v .. none if v = 0, else v/10 rounded up, plus 1, ticks: t tenths of v, and not one more than v needs
+  pub no-inhibit : inhibitTicks 0 ≡ 0
+  pub rounded-up : (v : ℕ) → 0 < v → (t : ℕ) × (inhibitTicks v ≡ t + 1) × (v ≤ t * 10) × (t * 10 < v + 10)
   -- What is counted as announced is what the last emergency frame since boot-up said, good if none.
   pub announced : (p : PowerUp) (cs : List Call) → let h = after (powered p) cs in
       isInitialising (h .core) ≡ false → Said (nodeOf p) (lastEmergency (nodeOf p) (sent (powered p) cs)) (h .core .announced)
