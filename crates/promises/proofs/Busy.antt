@@ -1,6 +1,7 @@
 -- `Busy` of specs/Busy.antt: what is asked for by computation, what is sent then by the theorems.
 use native.Mathlib.Omega.{arith}
 use mathlib.Core.Path.{refl}
+use mathlib.Core.List.{_++_}
 use Rattle.entries.specs.Table.{entries, table, lookup}
 use Rattle.dictionary.specs.Reads.{shownAt}
 use Rattle.dictionary.specs.Writes.{written}
@@ -11,7 +12,7 @@ use Rattle.promises.specs.Calls.{sample, step}
 use Rattle.promises.specs.Histories.{after, PowerUp}
 use Rattle.promises.specs.Worked.{node1}
 use Rattle.promises.specs.Gap.{Unrelieved}
-use Rattle.promises.specs.Busy.{busy, flood, Busy}
+use Rattle.promises.specs.Busy.{busy, flood, held, wait, Busy}
 use Rattle.promises.proofs.Gap.{gap}
 
 -- `node1` of specs/Worked.antt
@@ -26,6 +27,10 @@ powered-1 =
 unrelieved : Unrelieved 1 (step (after node1 busy) (sample Missing)) flood
 unfolding entries table lookup shownAt written due act settledTo
 unrelieved = record { missing = refl; alerting = refl; running = refl }
+
+unrelieved-still : Unrelieved 1 (after node1 (held ++ wait)) flood
+unfolding entries table lookup shownAt written due act settledTo
+unrelieved-still = record { missing = refl; alerting = refl; running = refl }
 
 pub busy-line : Busy
 unfolding entries table lookup shownAt written due act settledTo powered-1
@@ -42,4 +47,9 @@ busy-line =
       hidden = gap .no-position powered-1 busy flood refl;
       shown = refl;
       anew = refl;
+      inhibited = refl;
+      good-still = refl;
+      over = refl;
+      unrelieved-still = unrelieved-still;
+      told-then = gap .gap-is-told powered-1 (held ++ wait) flood refl refl refl unrelieved-still (omega arith);
     }

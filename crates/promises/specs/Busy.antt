@@ -1,5 +1,6 @@
 -- A busy line on which the reading goes missing, by calls from power-up of node 1: what specs/Gap.antt asks for is met, and what is sent then.
 use Prim.Native.Nat.{ℕ}
+use lib.ListN.{replicate}
 use mathlib.Core.Path.{_≡_}
 use mathlib.Core.Bool.{true, false}
 use mathlib.Core.List.{List, [], _∷_, _++_}
@@ -34,6 +35,14 @@ flood =
     reads ∷ slot ∷ tick ∷ reads ∷ sync ∷ slot ∷ tick ∷ reads ∷ sync ∷ sample (Raw 1048576) ∷ slot
     ∷ tick ∷ reads ∷ sync ∷ command 0x01 ∷ slot ∷ sample Missing ∷ tick ∷ reads ∷ sync ∷ slot ∷ []
 
+-- 1015h = 95, so 11 ticks from the emergency frame that says good; then the reading goes missing.
+abbrev pub held : List Call
+held = slot ∷ slot ∷ writes (bytes 0x2B 0x15 0x10 0x00 0x5F 0x00 0 0) ++ sample (Raw 7) ∷ slot ∷ sample Missing ∷ []
+
+-- ten ticks with a slot after them, which sends nothing; and the eleventh
+abbrev pub wait : List Call
+wait = replicate 10 tick ++ slot ∷ tick ∷ []
+
 pub record Busy : Type 0 where
   -- what waits when the reading goes missing, and what waits then
   pub before : after node1 busy .line ≡ tpdo1 ∷ heartbeat ∷ sdoReply ∷ tpdo2 ∷ 0 ∷ []
@@ -50,3 +59,9 @@ pub record Busy : Type 0 where
   pub shown : among isPosition (sent (after node1 busy) flood) ≡ true
   -- a reset and its boot-up begin anew
   pub anew : lastEmergency 1 (sent node1 (busy ++ command 0x81 ∷ slot ∷ [])) ≡ none
+  -- While the inhibit time runs the gap is not told; from its end it is.
+  pub inhibited : after node1 held .core .timers .inhibit ≡ 11
+  pub good-still : lastEmergency 1 (sent node1 (held ++ wait)) ≡ some (saysGood 1)
+  pub over : after node1 (held ++ wait) .core .timers .inhibit ≡ 0
+  pub unrelieved-still : Unrelieved 1 (after node1 (held ++ wait)) flood
+  pub told-then : lastEmergency 1 (sent node1 ((held ++ wait) ++ flood)) ≡ some (saysMissing 1)

@@ -143,7 +143,7 @@ pub record Gap : Type 0 where
       waits h emergency ≡ ((isIn preOperational c || isIn operational c) && on (communication c .emergency) && eqb (c .timers .inhibit) 0 && not (Bool·beq (good c) (c .announced)))
   -- .. no inhibit time runs: what is left of it, since the last emergency frame
   pub inhibit-left : (p : PowerUp) (cs : List Call) → after (powered p) cs .core .timers .inhibit ≡ left (nodeOf p) (powered p) cs 0
-  -- for 1015h = v .. none if v = 0, else v/10 rounded up, plus 1, ticks: t tenths of v, and not one more than v needs
+  -- for 1015h = v .. none if v = 0, else v/10 rounded up, plus 1, ticks: t is the least with v ≤ 10 t
   pub no-inhibit : inhibitTicks 0 ≡ 0
   pub rounded-up : (v : ℕ) → 0 < v → (t : ℕ) × (inhibitTicks v ≡ t + 1) × (v ≤ t * 10) × (t * 10 < v + 10)
   -- What is counted as announced is what the last emergency frame since boot-up said, good if none.
@@ -152,8 +152,8 @@ pub record Gap : Type 0 where
   -- Both [resets] enter Initialising, .. end any inhibit time and forget what was announced ("good" counts as announced).
   pub forgotten : (p : PowerUp) (cs : List Call) → let h = after (powered p) cs in
       isInitialising (h .core) ≡ true → (h .core .announced ≡ true) × (h .core .timers .inhibit ≡ 0)
-  -- Of the frames that can be sent each test finds its own: no two have an identifier in common but the heartbeat and the boot-up frame, which differ in
-  -- the byte; and while a PDO is on its identifier is in 181h..57Fh.
+  -- Of the frames that can be sent each test finds its own, and no other: the heartbeat has the boot-up frame's identifier, but not its byte, and while a
+  -- PDO is on its identifier is in 181h..57Fh.
   pub known : (p : PowerUp) (cs : List Call) (k : Kind) → let h = after (powered p) cs in waits h k ≡ true → Known (nodeOf p) (frameOf (h .core) k) false (alerts k) (showsPosition k)
   pub known-boot-up : (p : PowerUp) (cs : List Call) → Known (nodeOf p) (bootUpFrame (after (powered p) cs .core)) true false false
   -- From the missing sample to the next good one no position frame leaves at all.
