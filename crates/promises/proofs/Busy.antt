@@ -12,7 +12,7 @@ use Rattle.promises.specs.Calls.{sample, step}
 use Rattle.promises.specs.Histories.{after, PowerUp}
 use Rattle.promises.specs.Worked.{node1}
 use Rattle.promises.specs.Gap.{Unrelieved}
-use Rattle.promises.specs.Busy.{busy, flood, held, wait, Busy}
+use Rattle.promises.specs.Busy.{busyLine, busyMaster, held, wait, Busy}
 use Rattle.promises.proofs.Gap.{gap}
 
 -- `node1` of specs/Worked.antt
@@ -24,11 +24,11 @@ powered-1 =
       fits = record { vendor = omega arith; product = omega arith; revision = omega arith; serial = omega arith };
     }
 
-unrelieved : Unrelieved 1 (step (after node1 busy) (sample Missing)) flood
+unrelieved : Unrelieved 1 (step (after node1 busyLine) (sample Missing)) busyMaster
 unfolding entries table lookup shownAt written due act settledTo
 unrelieved = record { missing = refl; alerting = refl; running = refl }
 
-unrelieved-still : Unrelieved 1 (after node1 (held ++ wait)) flood
+unrelieved-still : Unrelieved 1 (after node1 (held ++ wait)) busyMaster
 unfolding entries table lookup shownAt written due act settledTo
 unrelieved-still = record { missing = refl; alerting = refl; running = refl }
 
@@ -43,13 +43,13 @@ busy-line =
       unrelieved = unrelieved;
       five = refl;
       good = refl;
-      told = gap .missing-is-told powered-1 busy flood refl refl unrelieved (omega arith);
-      hidden = gap .no-position powered-1 busy flood refl;
+      told = gap .missing-is-told powered-1 busyLine busyMaster refl refl unrelieved (omega arith);
+      hidden = gap .no-position powered-1 busyLine busyMaster refl;
       shown = refl;
       anew = refl;
       inhibited = refl;
       good-still = refl;
       over = refl;
       unrelieved-still = unrelieved-still;
-      told-then = gap .gap-is-told powered-1 (held ++ wait) flood refl refl refl unrelieved-still (omega arith);
+      told-then = gap .gap-is-told powered-1 (held ++ wait) busyMaster refl refl refl unrelieved-still (omega arith);
     }

@@ -18,7 +18,7 @@ use Rattle.promises.specs.Histories.{after, frames, sent, PowerUp, power
 use Rattle.promises.specs.Gap.{among, isPosition, showsPosition, isGoodSample}
 use Rattle.promises.proofs.Valid.{valid-step}
 use Rattle.promises.proofs.Meant.{core-step}
-use Rattle.promises.proofs.Withdrawals.{shows}
+use Rattle.promises.proofs.Conditions.{shows}
 use Rattle.promises.proofs.Histories.{valid-after, valid-powered}
 use Rattle.promises.proofs.Relief.{no-relief, stays-missing}
 use Rattle.promises.proofs.Known.{framed, frames-by, sent-waits, known, known-boot-up}

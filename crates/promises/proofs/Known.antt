@@ -27,7 +27,7 @@ use Rattle.promises.specs.Histories.{frames}
 use Rattle.promises.specs.Gap.{alerts, showsPosition, Known, isBootUp}
 use Rattle.promises.proofs.Slots.{number-is}
 use Rattle.promises.proofs.Causes.{Cause, cause}
-use Rattle.promises.proofs.Withdrawals.{beats, shows}
+use Rattle.promises.proofs.Conditions.{beats, shows}
 
 -- the frames that an act sends
 abbrev pub framed : Option Frame → List Frame

@@ -13,9 +13,14 @@ pub mod Slots
 pub mod Meant
 pub mod Causes
 pub mod Answers
+pub mod Conditions
 pub mod Withdrawals
 pub mod Laws
 pub mod Histories
+pub mod Turns
+pub mod Departures
+pub mod Lined
+pub mod BootUp
 pub mod FiveSlots
 pub mod Known
 pub mod Announced
@@ -25,4 +30,5 @@ pub mod Relief
 pub mod Hidden
 pub mod Gap
 pub mod Worked
+pub mod FullLine
 pub mod Busy

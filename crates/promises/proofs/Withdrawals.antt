@@ -2,14 +2,12 @@
 use Prim.Native.Nat.{ℕ}
 use lib.Dec.{eqb, ltb}
 use mathlib.Core.Path.{_≡_, refl, sym, ap, ap₂, _∙_}
-use mathlib.Core.List.{List}
 use mathlib.Core.Logic.{_⊎_, inl, inr}
-use mathlib.Core.Bool.{Bool, true, false, not, _&&_, and-true, and-false, cond}
-use borrow.Author.Tests.{eqb-true, eq-eqb, not-false}
-use Rattle.cases.proofs.Cases.{by, both, test, true-false}
+use mathlib.Core.Bool.{Bool, true, false, not, _&&_, and-true, and-false}
+use borrow.Author.Tests.{eqb-true, eq-eqb, not-false, ltb-false, le-ltb}
+use Rattle.cases.proofs.Cases.{by, test, true-false}
 use Rattle.can.specs.declared.Received.{Received}
 use Rattle.dictionary.specs.Accepted.{on}
-use Rattle.dictionary.specs.Writes.{ownKey, written}
 use Rattle.sdo.specs.Reply.{confirmed}
 use Rattle.sdo.specs.Service.{Due, none, value, confirmation, abort, answer}
 use Rattle.waiting.specs.Line.{first}
@@ -18,55 +16,20 @@ use Rattle.parts.specs.declared.Core.{Core}
 use Rattle.parts.specs.declared.Head.{Head}
 use Rattle.parts.specs.declared.Sensor.{Sensor}
 use Rattle.parts.specs.declared.Sensor.the-variants.{Missing, Raw}
-use Rattle.promises.specs.States.{Goal, operational, stopped, preOperational, state, isIn, isInitialising, good, communication, Which, one, two, pdo}
-use Rattle.promises.specs.WaitingLine.{Kind, emergency, sdoReply, heartbeat, tpdo, number, may, mayBeat, mayShow}
+use Rattle.promises.specs.States.{Goal, operational, stopped, preOperational, state, isIn, isInitialising, isLive, good, communication, Which, pdo}
+use Rattle.promises.specs.WaitingLine.{Kind, emergency, sdoReply, heartbeat, tpdo, number, may}
 use Rattle.promises.specs.Acts.{Act, nothing, enter, reset, boot, idle, send, take, lose, time, sync, serve, acted}
-use Rattle.promises.specs.Calls.{Call, receive, tick, sample, slot, isSlot, served, meant, step}
+use Rattle.promises.specs.Calls.{Call, receive, tick, sample, slot, served, meant, step}
 use Rattle.promises.specs.Meant.{Requests, Writes, dueTo}
 use Rattle.promises.specs.Valid.{Valid}
-use Rattle.promises.specs.Withdrawals.{identifierKey, Withdrawal, resets, stops, leaves, loses, switches-off, beats-no-more, condition-ends}
+use Rattle.promises.specs.Withdrawals.{identifierKey, Withdrawal, resets, stops, leaves, loses, switches-off, beats-no-more, silenced, found, lost}
 use Rattle.promises.proofs.Slots.{no-may}
 use Rattle.promises.proofs.Meant.{core-step, enters, resets as reset-law}
 use Rattle.promises.proofs.Causes.{Cause, cause, requests}
 use Rattle.promises.proofs.Answers.{AtSlot, booting, idling, sending, at-slot}
+use Rattle.promises.proofs.Conditions.{alerting, alerts, beats, shows, alert-written, beat-written, show-written}
 
--- A condition taken apart.
-pub beats : (c : Core) → may c heartbeat ≡ true → (not (isInitialising c) ≡ true) × (not (eqb (communication c .heartbeat) 0) ≡ true)
-beats c = both (not (isInitialising c)) (not (eqb (communication c .heartbeat) 0))
-
-pub record Shows (c : Core) (w : Which) : Type 0 where
-  pub operates : isIn operational c ≡ true
-  pub is-on : on (pdo (communication c) w .identifier) ≡ true
-  pub is-good : good c ≡ true
-
-pub shows : (c : Core) (w : Which) → may c (tpdo w) ≡ true → Shows c w
-shows c w y =
-    let runs = both (isIn operational c && on (pdo (communication c) w .identifier)) (good c) y in
-    let there = both (isIn operational c) (on (pdo (communication c) w .identifier)) (runs .0) in
-    record { operates = there .0; is-on = there .1; is-good = runs .1 }
-
--- The conditions after a write of v to the entry of key k: 1017h alters the heartbeat's, a PDO's sub 1 that of the PDO.
-own-identifier : (k : ℕ) → eqb (ownKey k) 0x1800_01 ≡ eqb k 0x1800_01
-own-identifier k = test (eqb k 0x6200_00) (λ e. rw (eqb-true k 0x6200_00 e)) (λ e. rw e)
-
-module _ (c : Core) (f : List ℕ) (k v : ℕ) where
-  pub beat-written : may (acted c (serve (confirmed f k v))) heartbeat ≡ mayBeat (c .nmt) (cond (eqb k 0x1017_00) v (communication c .heartbeat))
-  unfolding written
-  beat-written = refl
-
-  pub show-written : (w : Which)
-      → may (acted c (serve (confirmed f k v))) (tpdo w) ≡ mayShow (c .nmt) (cond (eqb k (identifierKey w)) v (pdo (communication c) w .identifier)) (good c)
-  unfolding written
-  show-written one = rw (own-identifier k)
-  show-written two = refl
-
--- the two kinds that 01's list names apart
-abbrev urgent : Kind → Bool
-urgent emergency = true
-urgent sdoReply = false
-urgent heartbeat = false
-urgent (tpdo w) = false
-
+-- the one kind that entering Stopped does not take
 abbrev beating : Kind → Bool
 beating emergency = false
 beating sdoReply = false
@@ -100,6 +63,19 @@ module _ (h : Head) (f : Received) where
       beats-no-more (record { requests = r; accepted = e ∙ ap₂ confirmation (eqb-true k 0x1017_00 t) zero-beat }))
       (λ t. goes-on y (rw t at z))
 
+  alert-served : (x : Due) → Requests h f → dueTo h f ≡ x → Ends emergency (serve (answer (f .bytes) x))
+  alert-served none r e y n = goes-on y n
+  alert-served (value w m) r e y n = goes-on y n
+  alert-served (abort m) r e y n = goes-on y n
+  alert-served (confirmation k v) r e y n =
+      let s = alerts c y in
+      let z = sym (alert-written c (f .bytes) k v) ∙ n in
+      test (eqb k 0x1014_00)
+      (λ t.
+      let is-off : on v ≡ false = sym (and-true (on v && true) ∙ and-true (on v)) ∙ rw (s .lives, t, s .rested, s .differs) at z in
+      silenced (record { requests = r; accepted = e ∙ ap (λ j. confirmation j v) (eqb-true k 0x1014_00 t) }) is-off)
+      (λ t. goes-on y (rw t at z))
+
   tpdo-served : (w : Which) (x : Due) → Requests h f → dueTo h f ≡ x → Ends (tpdo w) (serve (answer (f .bytes) x))
   tpdo-served w none r e y n = goes-on y n
   tpdo-served w (value u m) r e y n = goes-on y n
@@ -114,51 +90,59 @@ module _ (h : Head) (f : Received) where
       (λ t. goes-on y (rw t at z))
 
   -- by a frame
-  by-frame : (a : Act) (k : Kind) → Cause h f a → urgent k ≡ false → Ends k a
-  by-frame nothing k x o y n = goes-on y n
-  by-frame (enter g) emergency x o y n = true-false o
-  by-frame (enter operational) sdoReply x o y n = true-false n
-  by-frame (enter stopped) sdoReply x o y n = stops (x .0) (other sdoReply refl)
-  by-frame (enter preOperational) sdoReply x o y n = true-false n
-  by-frame (enter operational) heartbeat x o y n = goes-on (beats c y .1) n
-  by-frame (enter stopped) heartbeat x o y n = goes-on (beats c y .1) n
-  by-frame (enter preOperational) heartbeat x o y n = goes-on (beats c y .1) n
-  by-frame (enter g) (tpdo w) x o y n = leaves (x .0) (shows c w y .operates) (x .1)
-  by-frame (reset r) k x o y n = resets x
-  by-frame boot k x o y n = absurd x
-  by-frame idle k x o y n = absurd x
-  by-frame (send j) k x o y n = absurd x
-  by-frame (take r) k x o y n = absurd x
-  by-frame lose k x o y n = absurd x
-  by-frame time k x o y n = absurd x
-  by-frame sync emergency x o y n = true-false o
-  by-frame sync sdoReply x o y n = goes-on y n
-  by-frame sync heartbeat x o y n = goes-on y n
-  by-frame sync (tpdo w) x o y n = goes-on y n
-  by-frame (serve s) emergency x o y n = true-false o
-  by-frame (serve s) sdoReply x o y n = goes-on y n
-  by-frame (serve s) heartbeat x o y n = beat-served (dueTo h f) (x .0) refl y (rw (← x .1) n)
-  by-frame (serve s) (tpdo w) x o y n = tpdo-served w (dueTo h f) (x .0) refl y (rw (← x .1) n)
+  by-frame : (a : Act) (k : Kind) → Cause h f a → Ends k a
+  by-frame nothing k x y n = goes-on y n
+  by-frame (enter stopped) emergency x y n = stops (x .0) (other emergency refl)
+  by-frame (enter operational) emergency x y n = let s = alerts c y in goes-on (rw (s .is-on, s .rested) (s .differs)) n
+  by-frame (enter preOperational) emergency x y n = let s = alerts c y in goes-on (rw (s .is-on, s .rested) (s .differs)) n
+  by-frame (enter stopped) sdoReply x y n = stops (x .0) (other sdoReply refl)
+  by-frame (enter operational) sdoReply x y n = true-false n
+  by-frame (enter preOperational) sdoReply x y n = true-false n
+  by-frame (enter stopped) heartbeat x y n = goes-on (beats c y .1) n
+  by-frame (enter operational) heartbeat x y n = goes-on (beats c y .1) n
+  by-frame (enter preOperational) heartbeat x y n = goes-on (beats c y .1) n
+  by-frame (enter g) (tpdo w) x y n = leaves (x .0) (shows c w y .operates) (x .1)
+  by-frame (reset r) k x y n = resets x
+  by-frame boot k x y n = absurd x
+  by-frame idle k x y n = absurd x
+  by-frame (send j) k x y n = absurd x
+  by-frame (take r) k x y n = absurd x
+  by-frame lose k x y n = absurd x
+  by-frame time k x y n = absurd x
+  by-frame sync emergency x y n = goes-on y n
+  by-frame sync sdoReply x y n = goes-on y n
+  by-frame sync heartbeat x y n = goes-on y n
+  by-frame sync (tpdo w) x y n = goes-on y n
+  by-frame (serve s) emergency x y n = alert-served (dueTo h f) (x .0) refl y (rw (← x .1) n)
+  by-frame (serve s) sdoReply x y n = goes-on y n
+  by-frame (serve s) heartbeat x y n = beat-served (dueTo h f) (x .0) refl y (rw (← x .1) n)
+  by-frame (serve s) (tpdo w) x y n = tpdo-served w (dueTo h f) (x .0) refl y (rw (← x .1) n)
 
 module _ (h : Head) (v : Valid h) where
   abbrev Same : Kind → Act → Type 0
   Same k a = may (acted (h .core) a) k ≡ may (h .core) k
 
-  -- no other call ends the condition of a kind other than the emergency
-  by-tick : (k : Kind) → urgent k ≡ false → Same k (meant h tick)
-  by-tick emergency o = true-false o
-  by-tick sdoReply o = by (Same sdoReply) (isInitialising (h .core)) (λ _. refl) (λ _. refl)
-  by-tick heartbeat o = by (Same heartbeat) (isInitialising (h .core)) (λ _. refl) (λ _. refl)
-  by-tick (tpdo w) o = by (Same (tpdo w)) (isInitialising (h .core)) (λ _. refl) (λ _. refl)
+  -- a tick ends none
+  by-tick : (k : Kind) → may (h .core) k ≡ true → Same k (meant h tick)
+  by-tick emergency y = by (Same emergency) (isInitialising (h .core)) (λ _. refl) (λ _. rw (eqb-true (h .core .timers .inhibit) 0 (alerts (h .core) y .rested)))
+  by-tick sdoReply y = by (Same sdoReply) (isInitialising (h .core)) (λ _. refl) (λ _. refl)
+  by-tick heartbeat y = by (Same heartbeat) (isInitialising (h .core)) (λ _. refl) (λ _. refl)
+  by-tick (tpdo w) y = by (Same (tpdo w)) (isInitialising (h .core)) (λ _. refl) (λ _. refl)
 
-  by-sample : (s : Sensor) (k : Kind) → urgent k ≡ false → may (h .core) k ≡ true → may (acted (h .core) (meant h (sample s))) k ≡ false → Withdrawal h (sample s) k
-  by-sample s emergency o y n = true-false o
-  by-sample Missing sdoReply o y n = goes-on y n
-  by-sample Missing heartbeat o y n = goes-on y n
-  by-sample Missing (tpdo w) o y n = loses
-  by-sample (Raw r) sdoReply o y n = goes-on y (sym (by (Same sdoReply) (ltb 1048575 r) (λ _. refl) (λ _. refl)) ∙ n)
-  by-sample (Raw r) heartbeat o y n = goes-on y (sym (by (Same heartbeat) (ltb 1048575 r) (λ _. refl) (λ _. refl)) ∙ n)
-  by-sample (Raw r) (tpdo w) o y n =
+  by-sample : (s : Sensor) (k : Kind) → may (h .core) k ≡ true → may (acted (h .core) (meant h (sample s))) k ≡ false → Withdrawal h (sample s) k
+  by-sample Missing emergency y n =
+      let s = alerts (h .core) y in
+      test (h .core .announced) (λ a. true-false (rw (s .lives, s .is-on, s .rested, a) at n)) (λ a. lost a)
+  by-sample Missing sdoReply y n = goes-on y n
+  by-sample Missing heartbeat y n = goes-on y n
+  by-sample Missing (tpdo w) y n = loses
+  by-sample (Raw r) emergency y n =
+      let s = alerts (h .core) y in
+      test (ltb 1048575 r) (λ t. goes-on y (rw t at n))
+      (λ t. test (h .core .announced) (λ a. found (ltb-false 1048575 r t) a) (λ a. true-false (rw (t, s .lives, s .is-on, s .rested, a) at n)))
+  by-sample (Raw r) sdoReply y n = goes-on y (sym (by (Same sdoReply) (ltb 1048575 r) (λ _. refl) (λ _. refl)) ∙ n)
+  by-sample (Raw r) heartbeat y n = goes-on y (sym (by (Same heartbeat) (ltb 1048575 r) (λ _. refl) (λ _. refl)) ∙ n)
+  by-sample (Raw r) (tpdo w) y n =
       let s = shows (h .core) w y in
       goes-on y (sym (by (Same (tpdo w)) (ltb 1048575 r) (λ _. refl) (λ _. rw (s .operates, s .is-on, s .is-good))) ∙ n)
 
@@ -180,18 +164,11 @@ module _ (h : Head) (v : Valid h) where
   core-ended : (x : Call) (k : Kind) → Ended x k → may (acted (h .core) (meant h x)) k ≡ false
   core-ended x k n = sym (ap (λ c. may c k) (core-step h x)) ∙ n
 
-  unless-urgent : (x : Call) (k : Kind) → isSlot x ≡ false → may (h .core) k ≡ true → Ended x k → (urgent k ≡ false → Withdrawal h x k) → Withdrawal h x k
-  unless-urgent x emergency s y n taken = condition-ends s y n
-  unless-urgent x sdoReply s y n taken = taken refl
-  unless-urgent x heartbeat s y n taken = taken refl
-  unless-urgent x (tpdo w) s y n taken = taken refl
-
   -- A condition that ends, ends by the slot that sends the kind or by a withdrawal of 01's list.
   pub listed : (x : Call) (k : Kind) → may (h .core) k ≡ true → Ended x k → ((x ≡ slot) × (first (waiting (h .line)) ≡ number k)) ⊎ Withdrawal h x k
-  listed (receive f) k y n =
-      inr (unless-urgent (receive f) k refl y n (λ u. by-frame h f (meant h (receive f)) k (cause h f v) u y (core-ended (receive f) k n)))
-  listed tick k y n = inr (unless-urgent tick k refl y n (λ u. goes-on y (sym (by-tick k u) ∙ core-ended tick k n)))
-  listed (sample s) k y n = inr (unless-urgent (sample s) k refl y n (λ u. by-sample s k u y (core-ended (sample s) k n)))
+  listed (receive f) k y n = inr (by-frame h f (meant h (receive f)) k (cause h f v) y (core-ended (receive f) k n))
+  listed tick k y n = goes-on y (sym (by-tick k y) ∙ core-ended tick k n)
+  listed (sample s) k y n = inr (by-sample s k y (core-ended (sample s) k n))
   listed slot k y n = inl (refl, by-slot (meant h slot) (at-slot h v) k y (core-ended slot k n))
 
   -- Each withdrawal ends the condition of what it takes.
@@ -221,4 +198,8 @@ module _ (h : Head) (v : Valid h) where
   ended (loses {w}) = ap (λ c. may c (tpdo w)) (core-step h (sample Missing)) ∙ and-false (isIn operational (h .core) && on (pdo (communication (h .core)) w .identifier))
   ended (switches-off {f} {v = j} {w} x o) = written-so x (tpdo w) ∙ show-written (h .core) (f .bytes) (identifierKey w) j w ∙ rw (eq-eqb (identifierKey w) (identifierKey w) refl, o, and-false (isIn operational (h .core)))
   ended (beats-no-more {f} x) = written-so x heartbeat ∙ beat-written (h .core) (f .bytes) 0x1017_00 0 ∙ and-false (not (isInitialising (h .core)))
-  ended (condition-ends s y n) = n
+  ended (silenced {f} {v = j} x o) = written-so x emergency ∙ alert-written (h .core) (f .bytes) 0x1014_00 j ∙ rw (o, and-false (isLive (h .core)))
+  ended (found {r} b a) =
+      let m : meant h (sample (Raw r)) ≡ take r = rw (le-ltb 1048575 r b) in
+      ap (λ c. may c emergency) (core-step h (sample (Raw r)) ∙ ap (acted (h .core)) m) ∙ rw a (and-false (alerting (h .core)))
+  ended (lost a) = ap (λ c. may c emergency) (core-step h (sample Missing)) ∙ rw a (and-false (alerting (h .core)))

@@ -5,8 +5,9 @@ use mathlib.Core.Logic.{_⊎_, _↔_}
 use mathlib.Core.Bool.{Bool, true, false}
 use mathlib.Core.List.{List, [], _∷_, _++_}
 use Rattle.can.specs.declared.Frame.{Frame}
-use Rattle.waiting.specs.Line.{first}
+use Rattle.waiting.specs.Line.{order, has, first}
 use Rattle.waiting.specs.Places.{waiting}
+use Rattle.waiting.specs.Laws.{Among}
 use Rattle.parts.specs.declared.Head.{Head}
 use Rattle.promises.specs.States.{isInitialising, node}
 use Rattle.promises.specs.WaitingLine.{Kind, number, frame, bootUpFrame, frameOf}
@@ -39,6 +40,15 @@ pub record LeavesBy (b : ℕ) (h : Head) (cs : List Call) (k : Kind) : Type 0 wh
   pub how : Sends (after h before) call k ⊎ Withdrawal (after h before) call k
   pub gone : waits (step (after h before) call) k ≡ false
 
+-- A kind joins at the end; one that waits already keeps its place. Several joining in one call join in the order just given.
+pub record Lined (h : Head) (c : Call) : Type 0 where
+  pub stayed : List ℕ
+  pub joined : List ℕ
+  pub line : waiting (step h c .line) ≡ stayed ++ joined
+  pub in-places : Among stayed (waiting (h .line))
+  pub in-order : Among joined order
+  pub keeps : (k : Kind) → waits h k ≡ true → waits (step h c) k ≡ true → has (number k) stayed ≡ true
+
 -- slot (answers one frame, or none exactly if none waits): the boot-up frame in Initialising, else the frame of the first that waits.
 pub data Answered (h : Head) : Bool → Frame → Type 0 where
   boot-up : isInitialising (h .core) ≡ true → waiting (h .line) ≡ [] → Answered h true (bootUpFrame (h .core))
@@ -61,6 +71,7 @@ pub record FiveSlots : Type 0 where
   -- What one of the list takes no longer waits, nor does it join again in the same call; and so what is sent.
   pub withdrawn : (h : Head) → Reachable h → (c : Call) (k : Kind) → Withdrawal h c k → waits (step h c) k ≡ false
   pub sent : (h : Head) → Reachable h → (c : Call) (k : Kind) → Sends h c k → waits (step h c) k ≡ false
+  pub lines-up : (h : Head) → Reachable h → (c : Call) → Lined h c
   -- In Initialising .. only the boot-up frame .. waits: until the next slot, whatever is called before it, and that slot answers it.
   pub boots : (h : Head) → Reachable h → isInitialising (h .core) ≡ true → (cs : List Call) → slots cs ≡ 0 → BootUpWaits (node (h .core)) (after h cs)
   pub answers : (h : Head) → Reachable h → Answered h (slotted h .waited) (slotted h .frame)

@@ -12,4 +12,5 @@ pub mod FiveSlots
 pub mod Laws
 pub mod Gap
 pub mod Worked
+pub mod FullLine
 pub mod Busy

@@ -1,14 +1,14 @@
 -- 01's list "Withdrawals, and no others", a clause for each of its lines: by which calls a kind goes unsent. Chapter "The waiting line".
-use Prim.Native.Nat.{ℕ}
+use Prim.Native.Nat.{ℕ, _≤_}
 use mathlib.Core.Path.{_≡_}
 use mathlib.Core.Bool.{true, false}
 use Rattle.can.specs.declared.Received.{Received}
 use Rattle.dictionary.specs.Accepted.{on}
 use Rattle.parts.specs.declared.Head.{Head}
-use Rattle.parts.specs.declared.Sensor.the-variants.{Missing}
+use Rattle.parts.specs.declared.Sensor.the-variants.{Missing, Raw}
 use Rattle.promises.specs.States.{Goal, operational, stopped, isIn, Reset, toEnter, toReset, Which, one, two}
-use Rattle.promises.specs.WaitingLine.{Kind, emergency, heartbeat, tpdo, may}
-use Rattle.promises.specs.Calls.{Call, receive, sample, isSlot, step}
+use Rattle.promises.specs.WaitingLine.{Kind, emergency, heartbeat, tpdo}
+use Rattle.promises.specs.Calls.{Call, receive, sample}
 use Rattle.promises.specs.Meant.{Commands, Writes}
 
 -- 1800-1, 1801-1
@@ -29,5 +29,8 @@ pub data Withdrawal (h : Head) : Call → Kind → Type 0 where
   switches-off : {f : Received} {v : ℕ} {w : Which} → Writes h f (identifierKey w) v → on v ≡ false → Withdrawal h (receive f) (tpdo w)
   -- writing 0 to 1017h takes the heartbeat;
   beats-no-more : {f : Received} → Writes h f 0x1017_00 0 → Withdrawal h (receive f) heartbeat
-  -- the emergency goes when its condition below ends. (A slot ends it too, by sending the emergency: no withdrawal.)
-  condition-ends : {c : Call} → isSlot c ≡ false → may (h .core) emergency ≡ true → may (step h c .core) emergency ≡ false → Withdrawal h c emergency
+  -- the emergency goes when its condition below ends: Pre-operational and Operational are left as above, bit 31 of 1014h is set,
+  silenced : {f : Received} {v : ℕ} → Writes h f 0x1014_00 v → on v ≡ false → Withdrawal h (receive f) emergency
+  -- or the present reading, found or lost, no longer differs from the one last announced. (An inhibit time begins by sending it: no withdrawal.)
+  found : {r : ℕ} → r ≤ 1048575 → h .core .announced ≡ true → Withdrawal h (sample (Raw r)) emergency
+  lost : h .core .announced ≡ false → Withdrawal h (sample Missing) emergency

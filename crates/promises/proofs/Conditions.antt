@@ -1,0 +1,67 @@
+-- A kind's condition taken apart, and what it is after a write.
+use Prim.Native.Nat.{ℕ}
+use lib.Dec.{eqb}
+use mathlib.Core.Path.{_≡_, refl}
+use mathlib.Core.List.{List}
+use mathlib.Core.Bool.{Bool, true, not, _&&_, Bool·beq, cond}
+use borrow.Author.Tests.{eqb-true}
+use Rattle.cases.proofs.Cases.{both, test}
+use Rattle.dictionary.specs.Accepted.{on}
+use Rattle.dictionary.specs.Writes.{ownKey, written}
+use Rattle.sdo.specs.Reply.{confirmed}
+use Rattle.parts.specs.declared.Core.{Core}
+use Rattle.promises.specs.States.{operational, isIn, isInitialising, isLive, good, communication, Which, one, two, pdo}
+use Rattle.promises.specs.WaitingLine.{emergency, heartbeat, tpdo, may, mayAlert, mayBeat, mayShow}
+use Rattle.promises.specs.Acts.{serve, acted}
+use Rattle.promises.specs.Withdrawals.{identifierKey}
+
+pub record Alerts (c : Core) : Type 0 where
+  pub lives : isLive c ≡ true
+  pub is-on : on (communication c .emergency) ≡ true
+  pub rested : eqb (c .timers .inhibit) 0 ≡ true
+  pub differs : not (Bool·beq (good c) (c .announced)) ≡ true
+
+-- all of the emergency's condition but what was announced
+abbrev pub alerting : Core → Bool
+alerting c = isLive c && on (communication c .emergency) && eqb (c .timers .inhibit) 0
+
+pub alerts : (c : Core) → may c emergency ≡ true → Alerts c
+alerts c y =
+    let u = both (alerting c) (not (Bool·beq (good c) (c .announced))) y in
+    let t = both (isLive c && on (communication c .emergency)) (eqb (c .timers .inhibit) 0) (u .0) in
+    let s = both (isLive c) (on (communication c .emergency)) (t .0) in
+    record { lives = s .0; is-on = s .1; rested = t .1; differs = u .1 }
+
+pub beats : (c : Core) → may c heartbeat ≡ true → (not (isInitialising c) ≡ true) × (not (eqb (communication c .heartbeat) 0) ≡ true)
+beats c = both (not (isInitialising c)) (not (eqb (communication c .heartbeat) 0))
+
+pub record Shows (c : Core) (w : Which) : Type 0 where
+  pub operates : isIn operational c ≡ true
+  pub is-on : on (pdo (communication c) w .identifier) ≡ true
+  pub is-good : good c ≡ true
+
+pub shows : (c : Core) (w : Which) → may c (tpdo w) ≡ true → Shows c w
+shows c w y =
+    let u = both (isIn operational c && on (pdo (communication c) w .identifier)) (good c) y in
+    let t = both (isIn operational c) (on (pdo (communication c) w .identifier)) (u .0) in
+    record { operates = t .0; is-on = t .1; is-good = u .1 }
+
+own-identifier : (k : ℕ) → eqb (ownKey k) 0x1800_01 ≡ eqb k 0x1800_01
+own-identifier k = test (eqb k 0x6200_00) (λ e. rw (eqb-true k 0x6200_00 e)) (λ e. rw e)
+
+-- A write of v to the entry of key k: 1014h alters the emergency's condition, 1017h the heartbeat's, a PDO's sub 1 that of the PDO.
+module _ (c : Core) (f : List ℕ) (k v : ℕ) where
+  pub alert-written : may (acted c (serve (confirmed f k v))) emergency
+      ≡ mayAlert (c .nmt) (cond (eqb k 0x1014_00) v (communication c .emergency)) (c .timers .inhibit) (good c) (c .announced)
+  unfolding written
+  alert-written = refl
+
+  pub beat-written : may (acted c (serve (confirmed f k v))) heartbeat ≡ mayBeat (c .nmt) (cond (eqb k 0x1017_00) v (communication c .heartbeat))
+  unfolding written
+  beat-written = refl
+
+  pub show-written : (w : Which)
+      → may (acted c (serve (confirmed f k v))) (tpdo w) ≡ mayShow (c .nmt) (cond (eqb k (identifierKey w)) v (pdo (communication c) w .identifier)) (good c)
+  unfolding written
+  show-written one = rw (own-identifier k)
+  show-written two = refl
