@@ -89,7 +89,7 @@ module _ (c : Core) (v : ValidDevice (c .device)) where
   valid-pdo one = v .settings .communication .pdo1
   valid-pdo two = v .settings .communication .pdo2
 
-  pub inside : (w : Which) → may c (tpdo w) ≡ true → within 0x181 0x57F (pdo (communication c) w .identifier) ≡ true
+  inside : (w : Which) → may c (tpdo w) ≡ true → within 0x181 0x57F (pdo (communication c) w .identifier) ≡ true
   inside w m =
       let i = pdo (communication c) w .identifier in
       let accepted = both (eqb (i % 0x80000000 / 0x800) 0) (not (on i) || within 0x181 0x57F i) (valid-pdo w .identifier) in
