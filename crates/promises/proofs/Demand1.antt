@@ -28,7 +28,7 @@ use Rattle.promises.specs.Demand1.{BadIdentifier, BadNode, Demand1}
 use Rattle.promises.proofs.Nothing.{step-nothing}
 use Rattle.promises.proofs.Refusals.{passes, fails, first-passes, second-passes, neither-passes, power-refusal, frame-refused, sample-refused, node-refused, node-taken}
 use Rattle.promises.proofs.Hearing.{heard-by}
-use Rattle.promises.proofs.Unmeant.{unmeant}
+use Rattle.promises.proofs.Unmeant.{not-meant}
 use Rattle.promises.proofs.Causes.{by-request}
 use Rattle.promises.proofs.Histories.{after-append, valid-reachable}
 
@@ -131,6 +131,6 @@ demand1 =
       sample-refused = sample-refused;
       node-refused = node-refused;
       node-taken = node-taken;
-      not-meant = λ h f r m. step-nothing h (receive f) refl (unmeant h f (valid-reachable h r) m);
+      not-meant = λ h f r. not-meant h f (valid-reachable h r);
       meant-or-nothing = λ h f r. meant-or-nothing h f (valid-reachable h r);
     }

@@ -1,6 +1,6 @@
 -- What a call means fits the head's state: what is known of an act where a call means it.
 use Prim.Native.Nat.{ℕ, _≤_}
-use lib.Dec.{eqb, leb, ltb}
+use lib.Dec.{eqb, leb}
 use mathlib.Core.Path.{_≡_, refl}
 use mathlib.Core.Bool.{Bool, true, false, not, _&&_}
 use mathlib.Core.List.{List}

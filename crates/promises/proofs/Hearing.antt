@@ -1,6 +1,5 @@
 -- What holds of nothing, and of what each of the head's identifiers can mean, holds of what any frame means.
 use Prim.Native.Nat.{_+_}
-use lib.Dec.{eqb}
 use mathlib.Core.Path.{_≡_}
 use mathlib.Core.Bool.{false, _||_}
 use borrow.Author.Tests.{eqb-true}

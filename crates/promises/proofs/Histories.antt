@@ -6,7 +6,6 @@ use mathlib.Core.Path.{_≡_, refl}
 use borrow.Author.Tests.{leb-true}
 use Rattle.cases.proofs.Cases.{by, both}
 use Rattle.entries.specs.declared.Identity.{Identity}
-use Rattle.cases.specs.Tests.{within}
 use Rattle.dictionary.specs.Valid.{ValidIdentity}
 use mathlib.Core.List.{List, [], _∷_, _++_}
 use Rattle.parts.specs.declared.Head.{Head}

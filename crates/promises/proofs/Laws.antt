@@ -1,10 +1,10 @@
 -- `Laws` of specs/Laws.antt.
-use mathlib.Core.Path.{_≡_, refl, sym, ap, _∙_}
+use mathlib.Core.Path.{_≡_, refl, sym, ap}
 use mathlib.Core.Bool.{Bool, true, false}
 use Rattle.parts.specs.declared.Head.{Head}
 use Rattle.promises.specs.WaitingLine.{emergency, may}
 use Rattle.promises.specs.Acts.{settledTo, act}
-use Rattle.promises.specs.Calls.{tick, poweredUp, received, ticked, sampled, slotted}
+use Rattle.promises.specs.Calls.{tick}
 use Rattle.promises.specs.Valid.{waits, Valid}
 use Rattle.promises.specs.Laws.{Laws}
 use Rattle.promises.proofs.Nothing.{step-nothing}

@@ -23,5 +23,13 @@ pub mod Departures
 pub mod Lined
 pub mod BootUp
 pub mod FiveSlots
+pub mod Known
+pub mod Announced
+pub mod Spoken
+pub mod Inhibit
+pub mod Relief
+pub mod Hidden
+pub mod Gap
 pub mod Worked
 pub mod FullLine
+pub mod Busy

@@ -59,7 +59,7 @@ module _ (h : Head) where
   loses = rw (core-step h (sample Missing)) (refl, refl)
 
 -- no frame but a reset alters a running inhibit time
-inhibit-after : (c : Core) (e : Effect) → timersAfter c e .inhibit ≡ c .timers .inhibit
+pub inhibit-after : (c : Core) (e : Effect) → timersAfter c e .inhibit ≡ c .timers .inhibit
 inhibit-after c Nothing = refl
 inhibit-after c Reply = refl
 inhibit-after c (Write k v) = refl

@@ -17,9 +17,10 @@ use Rattle.parts.specs.declared.Core.{Core}
 use Rattle.parts.specs.declared.Head.{Head}
 use Rattle.promises.specs.States.{operational, isIn, isInitialising, isLive, node, command, byteOf, commandOf}
 use Rattle.promises.specs.Acts.{Act, nothing}
-use Rattle.promises.specs.Calls.{receive, commanded, synchronised, requested, meant}
+use Rattle.promises.specs.Calls.{receive, commanded, synchronised, requested, meant, received}
 use Rattle.promises.specs.Valid.{Valid}
 use Rattle.promises.specs.Meant.{NotMeant, remote, of-29-bits, not-booted, other-identifier, command-length, other-node, other-command, state-held, sync-length, sync-state, request-length, request-state, reply-waits, client-abort}
+use Rattle.promises.proofs.Nothing.{step-nothing}
 use Rattle.promises.proofs.Hearing.{heard-by}
 
 module _ (h : Head) (f : Received) where
@@ -60,3 +61,6 @@ module _ (h : Head) (f : Received) where
   unmeant v (reply-waits i w) = as-request i (rw (laws places .waits line.sdoReply (search needs) (v .line), w, and-false (eqb (f .length) 8 && isLive c)))
   unmeant v (client-abort i a) =
       as-request i (by None (eqb (f .length) 8 && isLive c && not (has line.sdoReply (h .line))) (λ _. rw (sdo-laws (c .device) (isIn operational c) (f .bytes) .replied, a)) (λ _. refl))
+
+  pub not-meant : Valid h → NotMeant h f → received h f .head ≡ h
+  not-meant v m = step-nothing h (receive f) refl (unmeant v m)

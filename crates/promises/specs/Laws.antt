@@ -4,14 +4,11 @@ use mathlib.Core.Path.{_≡_}
 use mathlib.Core.Logic.{_↔_}
 use mathlib.Core.Bool.{true, false}
 use mathlib.Core.List.{[]}
-use Rattle.cases.specs.Tests.{within}
 use Rattle.can.specs.declared.Received.{Received}
-use Rattle.entries.specs.declared.Identity.{Identity}
 use Rattle.waiting.specs.Line.{places, first, Kinds}
 use Rattle.waiting.specs.Places.{waiting}
 use Rattle.parts.specs.declared.Core.{Core}
 use Rattle.parts.specs.declared.Head.{Head}
-use Rattle.parts.specs.declared.Sensor.{Sensor}
 use Rattle.parts.specs.declared.Sensor.the-variants.{Missing, Raw}
 use Rattle.promises.specs.States.{Goal, preOperational, state, isInitialising, Reset, restored, atRest, missingReading, good, communication, toEnter, toReset}
 use Rattle.promises.specs.WaitingLine.{Kind, emergency, sdoReply, number, may, bootUpFrame, frameOf}

@@ -11,5 +11,7 @@ pub mod Demand1
 pub mod Withdrawals
 pub mod FiveSlots
 pub mod Laws
+pub mod Gap
 pub mod Worked
 pub mod FullLine
+pub mod Busy

@@ -1,0 +1,56 @@
+-- A busy line on which the reading goes missing, by calls from power-up of node 1: what specs/Gap.antt asks for is met, and what is sent then.
+use lib.ListN.{replicate}
+use mathlib.Core.Path.{_≡_}
+use mathlib.Core.Bool.{true, false}
+use mathlib.Core.List.{List, [], _∷_, _++_}
+use mathlib.Core.Option.{none, some}
+use Rattle.sdo.specs.Worked.{bytes}
+use Rattle.waiting.specs.Line.{emergency, sdoReply, heartbeat, tpdo1, tpdo2}
+use Rattle.parts.specs.declared.Sensor.the-variants.{Missing, Raw}
+use Rattle.promises.specs.States.{isLive}
+use Rattle.promises.specs.Calls.{Call, tick, sample, slot, step}
+use Rattle.promises.specs.Histories.{after, slots, sent}
+use Rattle.promises.specs.Worked.{node1, writes}
+use Rattle.promises.specs.FullLine.{command, sync, asks}
+use Rattle.promises.specs.Gap.{among, lastEmergency, saysMissing, saysGood, isPosition, Unrelieved}
+
+-- Boot-up, missing told, a good sample told, 1017h = 1, Operational: TPDO1, the heartbeat, a reply and TPDO2 wait.
+abbrev pub busyLine : List Call
+busyLine = slot ∷ slot ∷ sample (Raw 69637) ∷ slot ∷ writes (bytes 0x2B 0x17 0x10 0x00 0x01 0x00 0 0) ++ command 0x01 ∷ tick ∷ asks ∷ sync ∷ []
+
+-- The master floods the head: a tick, a request and a SYNC before each slot, a sample that is refused, the present state commanded.
+abbrev pub busyMaster : List Call
+busyMaster =
+    asks ∷ slot ∷ tick ∷ asks ∷ sync ∷ slot ∷ tick ∷ asks ∷ sync ∷ sample (Raw 1048576) ∷ slot
+    ∷ tick ∷ asks ∷ sync ∷ command 0x01 ∷ slot ∷ sample Missing ∷ tick ∷ asks ∷ sync ∷ slot ∷ []
+
+-- 1015h = 95, so 11 ticks from the emergency frame that says good; then the reading goes missing.
+abbrev pub held : List Call
+held = slot ∷ slot ∷ writes (bytes 0x2B 0x15 0x10 0x00 0x5F 0x00 0 0) ++ sample (Raw 7) ∷ slot ∷ sample Missing ∷ []
+
+-- ten ticks with a slot after them, which sends nothing; and the eleventh
+abbrev pub wait : List Call
+wait = replicate 10 tick ++ slot ∷ tick ∷ []
+
+pub record Busy : Type 0 where
+  -- what waits when the reading goes missing, and what waits then
+  pub before : after node1 busyLine .line ≡ tpdo1 ∷ heartbeat ∷ sdoReply ∷ tpdo2 ∷ 0 ∷ []
+  pub then : step (after node1 busyLine) (sample Missing) .line ≡ heartbeat ∷ sdoReply ∷ emergency ∷ 0 ∷ 0 ∷ []
+  pub live : isLive (after node1 busyLine .core) ≡ true
+  pub uninhibited : after node1 busyLine .core .timers .inhibit ≡ 0
+  pub unrelieved : Unrelieved 1 (step (after node1 busyLine) (sample Missing)) busyMaster
+  pub five : slots busyMaster ≡ 5
+  -- good was said last; from the fifth slot on it is missing
+  pub good : lastEmergency 1 (sent node1 busyLine) ≡ some (saysGood 1)
+  pub told : lastEmergency 1 (sent node1 (busyLine ++ sample Missing ∷ busyMaster)) ≡ some (saysMissing 1)
+  -- no position frame leaves; without the missing sample one would
+  pub hidden : among isPosition (sent (after node1 busyLine) (sample Missing ∷ busyMaster)) ≡ false
+  pub shown : among isPosition (sent (after node1 busyLine) busyMaster) ≡ true
+  -- a reset and its boot-up begin anew
+  pub anew : lastEmergency 1 (sent node1 (busyLine ++ command 0x81 ∷ slot ∷ [])) ≡ none
+  -- While the inhibit time runs the gap is not told; from its end it is.
+  pub inhibited : after node1 held .core .timers .inhibit ≡ 11
+  pub good-still : lastEmergency 1 (sent node1 (held ++ wait)) ≡ some (saysGood 1)
+  pub over : after node1 (held ++ wait) .core .timers .inhibit ≡ 0
+  pub unrelieved-still : Unrelieved 1 (after node1 (held ++ wait)) busyMaster
+  pub told-then : lastEmergency 1 (sent node1 ((held ++ wait) ++ busyMaster)) ≡ some (saysMissing 1)
