@@ -14,4 +14,6 @@ pub mod Meant
 pub mod Causes
 pub mod Laws
 pub mod Histories
+pub mod Identifiers
+pub mod Service
 pub mod Worked

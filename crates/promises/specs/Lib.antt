@@ -9,3 +9,4 @@ pub mod Promised
 pub mod Histories
 pub mod Laws
 pub mod Worked
+pub mod Service

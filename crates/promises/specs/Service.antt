@@ -1,0 +1,80 @@
+-- Demand 2, of service requests: each that is served gets the reply due to it, over any sequence of calls. 01's chapter "Service requests".
+use Prim.Native.Nat.{ℕ, _+_}
+use lib.Dec.{eqb}
+use mathlib.Core.Path.{_≡_}
+use mathlib.Core.Logic.{_↔_}
+use mathlib.Core.Bool.{Bool, true, false, not, _&&_, _||_, cond}
+use mathlib.Core.List.{List, [], _∷_, _++_}
+use mathlib.Core.Option.{Option, none, some}
+use Rattle.can.specs.declared.Frame.{Frame}
+use Rattle.can.specs.declared.Received.{Received}
+use Rattle.can.specs.Frame.{refusalOf}
+use Rattle.sdo.specs.declared.reply.Served.{Served}
+use Rattle.sdo.specs.Request.{aborting}
+use Rattle.sdo.specs.Reply.{carriedOut}
+use Rattle.sdo.specs.Service.{answer}
+use Rattle.waiting.specs.Places.{waiting}
+use Rattle.parts.specs.declared.Head.{Head}
+use Rattle.promises.specs.States.{isInitialising, isLive, node}
+use Rattle.promises.specs.WaitingLine.{sdoReply, number}
+use Rattle.promises.specs.Calls.{Call, receive, tick, sample, slot, step, received, slotted}
+use Rattle.promises.specs.Valid.{waits}
+use Rattle.promises.specs.Meant.{Requests, dueTo}
+use Rattle.promises.specs.Histories.{after, PowerUp, powered}
+
+-- the reply due to a request, and what it does
+abbrev pub replyDue : Head → Received → Served
+replyDue h f = answer (f .bytes) (dueTo h f)
+
+-- What is due is the reply that joins: it waits, behind all others. Its bytes are the ones due, and so is what the request did to the device.
+pub record Replied (h : Head) (f : Received) (then : Head) : Type 0 where
+  pub ahead : List ℕ
+  pub joins : waiting (then .line) ≡ ahead ++ number sdoReply ∷ []
+  pub bytes : then .core .reply ≡ replyDue h f .bytes
+  pub device : then .core .device ≡ carriedOut (h .core .device) (replyDue h f .effect)
+
+-- A request that is served, as a test; 4 abort (no effect, no reply): every other is answered.
+abbrev pub isRequest : Head → Received → Bool
+isRequest h f =
+    eqb (refusalOf f) 0
+    && not (f .extended || f .remote || isInitialising (h .core))
+    && eqb (f .identifier) (0x600 + node (h .core))
+    && eqb (f .length) 8
+    && isLive (h .core)
+    && not (waits h sdoReply)
+
+abbrev pub isAnswered : Head → Received → Bool
+isAnswered h f = isRequest h f && not (aborting (f .bytes))
+
+-- Reply: 580h+N, 8 bytes
+abbrev pub replyFrame : ℕ → List ℕ → Frame
+replyFrame n bytes = record { identifier = 0x580 + n; length = 8; bytes = bytes }
+
+-- the slot answers a frame 580h+N
+abbrev pub sendsReply : Head → Bool
+sendsReply h = slotted h .waited && eqb (slotted h .frame .identifier) (0x580 + node (h .core))
+
+-- The bytes due to the last request that was answered; none before the first, and none once a slot has sent them.
+abbrev pub owedBy : Head → Option (List ℕ) → Call → Option (List ℕ)
+owedBy h o (receive f) = cond (isAnswered h f) (some (replyDue h f .bytes)) o
+owedBy h o tick = o
+owedBy h o (sample s) = o
+owedBy h o slot = cond (sendsReply h) none o
+
+abbrev pub owed : Head → Option (List ℕ) → List Call → Option (List ℕ)
+owed h o [] = o
+owed h o (c ∷ cs) = owed (step h c) (owedBy h o c) cs
+
+-- of a head
+pub record Serves (h : Head) : Type 0 where
+  pub is-request : (f : Received) → (isRequest h f ≡ true) ↔ Requests h f
+  -- First that applies
+  pub gets-what-is-due : (f : Received) → Requests h f → aborting (f .bytes) ≡ false → Replied h f (received h f .head)
+  -- While a reply waits, a further request has no effect.
+  pub busy : (f : Received) → f .identifier ≡ 0x600 + node (h .core) → waits h sdoReply ≡ true → received h f .head ≡ h
+
+-- of the calls since power-up: what a slot sends as a reply is what is due to the last request that was answered, and it sends it once
+abbrev pub Answers : PowerUp → List Call → Type 0
+Answers p cs =
+    let h = after (powered p) cs in
+    sendsReply h ≡ true → (b : List ℕ) × (owed (powered p) none cs ≡ some b) × (slotted h .frame ≡ replyFrame (node (powered p .core)) b)
