@@ -10,3 +10,5 @@ pub mod Histories
 pub mod Laws
 pub mod Worked
 pub mod Service
+pub mod Readings
+pub mod ErrorList

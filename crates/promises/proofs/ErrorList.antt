@@ -1,0 +1,171 @@
+-- 1003-0 counts the good-to-missing changes since the list was last emptied, at most 4: `error-list`, of specs/ErrorList.antt.
+use Prim.Native.Nat.{ℕ, zero, suc, _≤_, min}
+use native.Mathlib.Omega.{arith}
+use lib.Dec.{eqb, ltb}
+use mathlib.Core.Path.{_≡_, refl, sym, ap, _∙_}
+use mathlib.Core.Logic.{_↔_}
+use mathlib.Core.Bool.{Bool, true, false, _&&_, cond}
+use mathlib.Core.List.{List, [], _∷_}
+use mathlib.Core.Option.{some}
+use borrow.Author.Tests.{eqb-true, eq-eqb, ltb-true, ltb-false}
+use Rattle.cases.proofs.Cases.{by, test, both, true-false}
+use Rattle.can.specs.declared.Received.{Received}
+use Rattle.entries.specs.declared.Device.{Device}
+use Rattle.entries.specs.declared.Reading.{Reading}
+use Rattle.entries.specs.Table.{entries, table, lookup}
+use Rattle.dictionary.specs.declared.read.Shown.the-variants.{Number}
+use Rattle.dictionary.specs.Accepted.{within}
+use Rattle.dictionary.specs.Reads.{shownAt}
+use Rattle.dictionary.specs.Writes.{written}
+use Rattle.dictionary.specs.Laws.{Shows}
+use Rattle.dictionary.proofs.ReadBack.{emptied}
+use Rattle.dictionary.proofs.Laws.{shows}
+use Rattle.sdo.specs.declared.reply.Served.{Served}
+use Rattle.sdo.specs.Reply.{carriedOut}
+use Rattle.sdo.specs.Service.{Due, none, value, confirmation, abort, answer}
+use Rattle.sdo.specs.Laws.{Confirmed}
+use Rattle.sdo.proofs.Laws.{laws as sdo-laws}
+use Rattle.waiting.specs.Line.{first}
+use Rattle.parts.specs.declared.Core.{Core}
+use Rattle.parts.specs.declared.Head.{Head}
+use Rattle.parts.specs.declared.Answer.{Answer}
+use Rattle.parts.specs.declared.Sensor.{Sensor}
+use Rattle.parts.specs.declared.Sensor.the-variants.{Missing, Raw}
+use Rattle.promises.specs.States.{operational, isIn, isInitialising}
+use Rattle.promises.specs.WaitingLine.{Kind, emergency, sdoReply, heartbeat, tpdo, kindOf}
+use Rattle.promises.specs.Acts.{Act, nothing, enter, reset, boot, idle, send, take, lose, time, sync, serve, acted}
+use Rattle.promises.specs.Calls.{Call, receive, tick, sample, slot, meant, step}
+use Rattle.promises.specs.Valid.{Valid}
+use Rattle.promises.specs.Meant.{dueTo, Writes}
+use Rattle.promises.specs.Histories.{after, PowerUp, powered}
+use Rattle.promises.specs.Service.{isRequest}
+use Rattle.promises.specs.Readings.{sampleBy, readingOf}
+use Rattle.promises.specs.ErrorList.{confirms, empties, lossesBy, losses, shownError, Lists, ErrorList}
+use Rattle.promises.proofs.Valid.{valid-step}
+use Rattle.promises.proofs.Meant.{core-step}
+use Rattle.promises.proofs.Causes.{Cause, cause}
+use Rattle.promises.proofs.Histories.{valid-powered}
+use Rattle.promises.proofs.Service.{is-request}
+use Rattle.promises.proofs.Readings.{reading-step, reading-powered}
+use Rattle.promises.proofs.Positions.{written-by}
+
+-- what 1003h reads
+module _ (d : Device) (o : Bool) where
+  count-shown : Shows d o 0x1003 0 (Number (d .errors))
+  unfolding table entries lookup shownAt
+  count-shown = shows d o 0x1003 0 refl refl
+
+  error-shown : (j : ℕ) → 1 ≤ j → j ≤ 4 → Shows d o 0x1003 j (shownError (d .errors) j)
+  unfolding table entries lookup shownAt
+  error-shown zero a b = absurd (omega arith)
+  error-shown (suc zero) a b = shows d o 0x1003 1 refl refl
+  error-shown (suc (suc zero)) a b = shows d o 0x1003 2 refl refl
+  error-shown (suc (suc (suc zero))) a b = shows d o 0x1003 3 refl refl
+  error-shown (suc (suc (suc (suc zero)))) a b = shows d o 0x1003 4 refl refl
+  error-shown (suc (suc (suc (suc (suc j))))) a b = absurd (omega arith)
+
+-- one more, at most 4
+counts : (s : Sensor) (e n : ℕ) → e ≡ min 4 n → (h : Head) → cond (readingOf s .good && ltb e 4) (suc e) e ≡ min 4 (lossesBy h s n (sample Missing))
+counts Missing e n q h = q
+counts (Raw r) e n q h = by (λ (m : ℕ). m ≡ min 4 (suc n)) (ltb e 4) (λ t. omega (arith, q, ltb-true e 4 t)) (λ t. omega (arith, q, ltb-false e 4 t))
+
+-- only a write to 1003-0 empties the list
+errors-due : (d : Device) (f : List ℕ) (y : Due) → confirms 0x1003_00 y ≡ false → carriedOut d (answer f y .effect) .errors ≡ d .errors
+unfolding written
+errors-due d f none n = refl
+errors-due d f (value w x) n = refl
+errors-due d f (confirmation k v) n = rw n
+errors-due d f (abort c) n = refl
+
+emptied-errors : (d : Device) (v : ℕ) → written d 0x1003_00 v .errors ≡ 0
+unfolding written
+emptied-errors d v = refl
+
+confirmed-by : (k : ℕ) (y : Due) → confirms k y ≡ true → (v : ℕ) × (y ≡ confirmation k v)
+confirmed-by k none e = true-false (sym e)
+confirmed-by k (value w n) e = true-false (sym e)
+confirmed-by k (confirmation j v) e = (v, ap (λ (i : ℕ). confirmation i v) (eqb-true j k e))
+confirmed-by k (abort c) e = true-false (sym e)
+
+module _ (h : Head) (f : Received) where
+  -- what is written there is 0
+  pub is-emptied : (empties h f ≡ true) ↔ Writes h f 0x1003_00 0
+  is-emptied = (as-write, λ w. rw (is-request h f .1 (w .requests), w .accepted))
+    where
+      as-write : empties h f ≡ true → Writes h f 0x1003_00 0
+      as-write e =
+          let d = h .core .device in
+          let o = isIn operational (h .core) in
+          let u = both (isRequest h f) (confirms 0x1003_00 (dueTo h f)) e in
+          let y = confirmed-by 0x1003_00 (dueTo h f) (u .1) in
+          let c : Confirmed d (f .bytes) _ 0x1003_00 (y .0) = rw (y .1) at (sdo-laws d o (f .bytes) .told) in
+          let zero : y .0 ≡ 0 = emptied d o (c .place) (y .0) (c .takes) (eq-eqb _ _ (sym (c .key))) in
+          record { requests = is-request h f .0 (u .0); accepted = y .1 ∙ ap (λ (v : ℕ). confirmation 0x1003_00 v) zero }
+
+module _ (h : Head) (v : Valid h) where
+  abbrev Same : Act → Type 0
+  Same a = acted (h .core) a .device .errors ≡ h .core .device .errors
+
+  errors-heard : (f : Received) (a : Act) → Cause h f a → empties h f ≡ false → Same a
+  errors-heard f nothing x n = refl
+  errors-heard f (enter g) x n = refl
+  errors-heard f (reset r) x n = refl
+  errors-heard f boot x n = absurd x
+  errors-heard f idle x n = absurd x
+  errors-heard f (send k) x n = absurd x
+  errors-heard f (take r) x n = absurd x
+  errors-heard f lose x n = absurd x
+  errors-heard f time x n = absurd x
+  errors-heard f sync x n = refl
+  errors-heard f (serve s) x n =
+      ap (λ (u : Served). carriedOut (h .core .device) (u .effect) .errors) (x .1)
+      ∙ errors-due (h .core .device) (f .bytes) (dueTo h f) (rw (is-request h f .1 (x .0)) at n)
+
+  errors-sent : (k : Kind) → Same (send k)
+  errors-sent emergency = refl
+  errors-sent sdoReply = refl
+  errors-sent heartbeat = refl
+  errors-sent (tpdo w) = refl
+
+  module _ (s : Sensor) (n : ℕ) (p : h .core .device .reading ≡ readingOf s) (q : h .core .device .errors ≡ min 4 n) where
+    abbrev Counts : Act → Type 0
+    Counts a = acted (h .core) a .device .errors ≡ min 4 n
+
+    abbrev errors : Core → ℕ
+    errors c = c .device .errors
+
+    errors-step : (c : Call) → step h c .core .device .errors ≡ min 4 (lossesBy h s n c)
+    errors-step (receive f) =
+        by (λ (m : ℕ). errors (step h (receive f) .core) ≡ min 4 m) (empties h f)
+        (λ e. ap (λ (d : Device). d .errors) (written-by h v (is-emptied h f .0 e)) ∙ emptied-errors (h .core .device) 0)
+        (λ e. ap errors (core-step h (receive f)) ∙ errors-heard f (meant h (receive f)) (cause h f v) e ∙ q)
+    errors-step tick = ap errors (core-step h tick) ∙ by Counts (isInitialising (h .core)) (λ _. q) (λ _. q)
+    errors-step (sample Missing) =
+        let e = h .core .device .errors in
+        ap errors (core-step h (sample Missing)) ∙ ap (λ (r : Reading). cond (r .good && ltb e 4) (suc e) e) p ∙ counts s e n q h
+    errors-step (sample (Raw r)) = ap errors (core-step h (sample (Raw r))) ∙ by Counts (ltb 1048575 r) (λ _. q) (λ _. q)
+    errors-step slot =
+        ap errors (core-step h slot)
+        ∙ by Counts (isInitialising (h .core)) (λ _. q)
+        (λ _. by Counts (eqb (first (h .line)) 0) (λ _. q) (λ _. errors-sent (kindOf (first (h .line))) ∙ q))
+
+errors-after : (cs : List Call) (h : Head) (s : Sensor) (n : ℕ) → Valid h → h .core .device .reading ≡ readingOf s → h .core .device .errors ≡ min 4 n
+    → after h cs .core .device .errors ≡ min 4 (losses h s n cs)
+errors-after [] h s n v p q = q
+errors-after (c ∷ cs) h s n v p q =
+    errors-after cs (step h c) (sampleBy s c) (lossesBy h s n c) (valid-step h c v) (reading-step h v s c p) (errors-step h v s n p q c)
+
+none-lost : (p : PowerUp) → powered p .core .device .errors ≡ 0
+none-lost p = by (λ (a : Answer). a .head .core .device .errors ≡ 0) (within 1 127 (p .number)) (λ _. refl) (λ _. refl)
+
+pub error-list : (p : PowerUp) (cs : List Call) → ErrorList p cs
+error-list p cs =
+    let h = after (powered p) cs in
+    let d = h .core .device in
+    let o = isIn operational (h .core) in
+    let e : d .errors ≡ min 4 (losses (powered p) Missing 0 cs) = errors-after cs (powered p) Missing 0 (valid-powered p) (reading-powered p) (none-lost p) in
+    record {
+      count = count-shown d o ∙ ap (λ (n : ℕ). some (Number n)) e;
+      error = λ j a b. error-shown d o j a b ∙ ap (λ (n : ℕ). some (shownError n j)) e;
+      emptied = is-emptied h;
+    }
