@@ -8,7 +8,7 @@ use mathlib.Core.Bool.{Bool, true, false, _&&_, cond}
 use mathlib.Core.List.{List, [], _∷_}
 use mathlib.Core.Option.{some}
 use borrow.Author.Tests.{eqb-true, eq-eqb, ltb-true, ltb-false}
-use Rattle.cases.proofs.Cases.{by, test, both, true-false}
+use Rattle.cases.proofs.Cases.{by, both, true-false}
 use Rattle.can.specs.declared.Received.{Received}
 use Rattle.entries.specs.declared.Device.{Device}
 use Rattle.entries.specs.declared.Reading.{Reading}
@@ -40,7 +40,7 @@ use Rattle.promises.specs.Meant.{dueTo, Writes}
 use Rattle.promises.specs.Histories.{after, PowerUp, powered}
 use Rattle.promises.specs.Service.{isRequest}
 use Rattle.promises.specs.Readings.{sampleBy, readingOf}
-use Rattle.promises.specs.ErrorList.{confirms, empties, lossesBy, losses, shownError, Lists, ErrorList}
+use Rattle.promises.specs.ErrorList.{confirms, empties, lossesBy, losses, shownError, ErrorList}
 use Rattle.promises.proofs.Valid.{valid-step}
 use Rattle.promises.proofs.Meant.{core-step}
 use Rattle.promises.proofs.Causes.{Cause, cause}

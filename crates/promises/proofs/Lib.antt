@@ -16,6 +16,7 @@ pub mod Laws
 pub mod Histories
 pub mod Identifiers
 pub mod Service
+pub mod Replies
 pub mod Readings
 pub mod Positions
 pub mod ErrorList

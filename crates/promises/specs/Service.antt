@@ -6,6 +6,7 @@ use mathlib.Core.Logic.{_↔_}
 use mathlib.Core.Bool.{Bool, true, false, not, _&&_, _||_, cond}
 use mathlib.Core.List.{List, [], _∷_, _++_}
 use mathlib.Core.Option.{Option, none, some}
+use Rattle.cases.specs.Cases.{firstOf}
 use Rattle.can.specs.declared.Frame.{Frame}
 use Rattle.can.specs.declared.Received.{Received}
 use Rattle.can.specs.Frame.{refusalOf}
@@ -15,7 +16,7 @@ use Rattle.sdo.specs.Reply.{carriedOut}
 use Rattle.sdo.specs.Service.{answer}
 use Rattle.waiting.specs.Places.{waiting}
 use Rattle.parts.specs.declared.Head.{Head}
-use Rattle.promises.specs.States.{isInitialising, isLive, node}
+use Rattle.promises.specs.States.{operational, stopped, preOperational, isInitialising, isLive, node, Command, noCommand, toEnter, toReset, commandOf}
 use Rattle.promises.specs.WaitingLine.{sdoReply, number}
 use Rattle.promises.specs.Calls.{Call, receive, tick, sample, slot, step, received, slotted}
 use Rattle.promises.specs.Valid.{waits}
@@ -33,11 +34,13 @@ pub record Replied (h : Head) (f : Received) (then : Head) : Type 0 where
   pub bytes : then .core .reply ≡ replyDue h f .bytes
   pub device : then .core .device ≡ carriedOut (h .core .device) (replyDue h f .effect)
 
--- A request that is served, as a test; 4 abort (no effect, no reply): every other is answered.
+-- `Heard` and `Requests` as tests; 4 abort (no effect, no reply): every other request is answered.
+abbrev pub isHeard : Head → Received → Bool
+isHeard h f = eqb (refusalOf f) 0 && not (f .extended || f .remote || isInitialising (h .core))
+
 abbrev pub isRequest : Head → Received → Bool
 isRequest h f =
-    eqb (refusalOf f) 0
-    && not (f .extended || f .remote || isInitialising (h .core))
+    isHeard h f
     && eqb (f .identifier) (0x600 + node (h .core))
     && eqb (f .length) 8
     && isLive (h .core)
@@ -54,9 +57,20 @@ replyFrame n bytes = record { identifier = 0x580 + n; length = 8; bytes = bytes 
 abbrev pub sendsReply : Head → Bool
 sendsReply h = slotted h .waited && eqb (slotted h .frame .identifier) (0x580 + node (h .core))
 
--- The bytes due to the last request that was answered; none before the first, and none once a slot has sent them.
+-- Withdrawals: a reset takes all; entering Stopped takes all but the heartbeat. The command takes the reply.
+abbrev pub takesReply : Command → Bool
+takesReply noCommand = false
+takesReply (toEnter operational) = false
+takesReply (toEnter stopped) = true
+takesReply (toEnter preOperational) = false
+takesReply (toReset r) = true
+
+abbrev pub withdrawsReply : Head → Received → Bool
+withdrawsReply h f = isHeard h f && eqb (f .identifier) 0x000 && takesReply (commandOf (node (h .core)) f)
+
+-- The bytes due to the last request that was answered; none before the first, none once a slot has sent them or a withdrawal has taken them.
 abbrev pub owedBy : Head → Option (List ℕ) → Call → Option (List ℕ)
-owedBy h o (receive f) = cond (isAnswered h f) (some (replyDue h f .bytes)) o
+owedBy h o (receive f) = firstOf ((isAnswered h f, some (replyDue h f .bytes)) ∷ (withdrawsReply h f, none) ∷ []) o
 owedBy h o tick = o
 owedBy h o (sample s) = o
 owedBy h o slot = cond (sendsReply h) none o
@@ -64,6 +78,10 @@ owedBy h o slot = cond (sendsReply h) none o
 abbrev pub owed : Head → Option (List ℕ) → List Call → Option (List ℕ)
 owed h o [] = o
 owed h o (c ∷ cs) = owed (step h c) (owedBy h o c) cs
+
+-- the bytes of the reply that waits
+abbrev pub pending : Head → Option (List ℕ)
+pending h = cond (waits h sdoReply) (some (h .core .reply)) none
 
 -- of a head
 pub record Serves (h : Head) : Type 0 where
@@ -73,8 +91,10 @@ pub record Serves (h : Head) : Type 0 where
   -- While a reply waits, a further request has no effect.
   pub busy : (f : Received) → f .identifier ≡ 0x600 + node (h .core) → waits h sdoReply ≡ true → received h f .head ≡ h
 
--- of the calls since power-up: what a slot sends as a reply is what is due to the last request that was answered, and it sends it once
-abbrev pub Answers : PowerUp → List Call → Type 0
-Answers p cs =
-    let h = after (powered p) cs in
-    sendsReply h ≡ true → (b : List ℕ) × (owed (powered p) none cs ≡ some b) × (slotted h .frame ≡ replyFrame (node (powered p .core)) b)
+-- of the calls since power-up
+pub record Answers (p : PowerUp) (cs : List Call) : Type 0 where
+  -- a reply waits exactly while it is owed, and with these bytes
+  pub exactly : pending (after (powered p) cs) ≡ owed (powered p) none cs
+  -- and what a slot sends as a reply is what is owed
+  pub sends : let h = after (powered p) cs in sendsReply h ≡ true
+      → (b : List ℕ) × (owed (powered p) none cs ≡ some b) × (slotted h .frame ≡ replyFrame (node (powered p .core)) b)
