@@ -20,4 +20,5 @@ pub mod Replies
 pub mod Readings
 pub mod Positions
 pub mod ErrorList
+pub mod Runs
 pub mod Worked

@@ -12,3 +12,4 @@ pub mod Worked
 pub mod Service
 pub mod Readings
 pub mod ErrorList
+pub mod Runs
