@@ -1,14 +1,14 @@
 -- 1003-0 counts the good-to-missing changes since the list was last emptied, at most 4: `error-list`, of specs/ErrorList.antt.
 use Prim.Native.Nat.{ℕ, zero, suc, _≤_, min}
 use native.Mathlib.Omega.{arith}
-use lib.Dec.{eqb, ltb}
+use lib.Dec.{ltb}
 use mathlib.Core.Path.{_≡_, refl, sym, ap, _∙_}
 use mathlib.Core.Logic.{_↔_}
 use mathlib.Core.Bool.{Bool, true, false, _&&_, cond}
 use mathlib.Core.List.{List, [], _∷_}
 use mathlib.Core.Option.{some}
 use borrow.Author.Tests.{eqb-true, eq-eqb, ltb-true, ltb-false}
-use Rattle.cases.proofs.Cases.{by, both, true-false}
+use Rattle.cases.proofs.Cases.{by, test, both, true-false}
 use Rattle.can.specs.declared.Received.{Received}
 use Rattle.entries.specs.declared.Device.{Device}
 use Rattle.entries.specs.declared.Reading.{Reading}
@@ -20,21 +20,16 @@ use Rattle.dictionary.specs.Writes.{written}
 use Rattle.dictionary.specs.Laws.{Shows}
 use Rattle.dictionary.proofs.ReadBack.{emptied}
 use Rattle.dictionary.proofs.Laws.{shows}
-use Rattle.sdo.specs.declared.reply.Served.{Served}
 use Rattle.sdo.specs.Reply.{carriedOut}
 use Rattle.sdo.specs.Service.{Due, none, value, confirmation, abort, answer}
 use Rattle.sdo.specs.Laws.{Confirmed}
 use Rattle.sdo.proofs.Laws.{laws as sdo-laws}
-use Rattle.waiting.specs.Line.{first}
-use Rattle.parts.specs.declared.Core.{Core}
 use Rattle.parts.specs.declared.Head.{Head}
 use Rattle.parts.specs.declared.Answer.{Answer}
 use Rattle.parts.specs.declared.Sensor.{Sensor}
 use Rattle.parts.specs.declared.Sensor.the-variants.{Missing, Raw}
-use Rattle.promises.specs.States.{operational, isIn, isInitialising}
-use Rattle.promises.specs.WaitingLine.{Kind, emergency, sdoReply, heartbeat, tpdo, kindOf}
-use Rattle.promises.specs.Acts.{Act, nothing, enter, reset, boot, idle, send, take, lose, time, sync, serve, acted}
-use Rattle.promises.specs.Calls.{Call, receive, tick, sample, slot, meant, step}
+use Rattle.promises.specs.States.{operational, isIn}
+use Rattle.promises.specs.Calls.{Call, receive, tick, sample, slot, step}
 use Rattle.promises.specs.Valid.{Valid}
 use Rattle.promises.specs.Meant.{dueTo, Writes}
 use Rattle.promises.specs.Histories.{after, PowerUp, powered}
@@ -42,8 +37,7 @@ use Rattle.promises.specs.Service.{isRequest}
 use Rattle.promises.specs.Readings.{sampleBy, readingOf}
 use Rattle.promises.specs.ErrorList.{confirms, empties, lossesBy, losses, shownError, ErrorList}
 use Rattle.promises.proofs.Valid.{valid-step}
-use Rattle.promises.proofs.Meant.{core-step}
-use Rattle.promises.proofs.Causes.{Cause, cause}
+use Rattle.promises.proofs.Altered.{Altered, heard, timed, sent, refused, took, lost, restarted, served, altered}
 use Rattle.promises.proofs.Histories.{valid-powered}
 use Rattle.promises.proofs.Service.{is-request}
 use Rattle.promises.proofs.Readings.{reading-step, reading-powered}
@@ -102,58 +96,42 @@ module _ (h : Head) (f : Received) where
           let zero : y .0 ≡ 0 = emptied d o (c .place) (y .0) (c .takes) (eq-eqb _ _ (sym (c .key))) in
           record { requests = is-request h f .0 (u .0); accepted = y .1 ∙ ap (λ (v : ℕ). confirmation 0x1003_00 v) zero }
 
-module _ (h : Head) (v : Valid h) where
-  abbrev Same : Act → Type 0
-  Same a = acted (h .core) a .device .errors ≡ h .core .device .errors
+module _ (h : Head) (s : Sensor) (n : ℕ) (p : h .core .device .reading ≡ readingOf s) (q : h .core .device .errors ≡ min 4 n) where
+  abbrev Unemptied : Call → Type 0
+  Unemptied (receive f) = empties h f ≡ false
+  Unemptied tick = Unit {0}
+  Unemptied (sample t) = Unit {0}
+  Unemptied slot = Unit {0}
 
-  errors-heard : (f : Received) (a : Act) → Cause h f a → empties h f ≡ false → Same a
-  errors-heard f nothing x n = refl
-  errors-heard f (enter g) x n = refl
-  errors-heard f (reset r) x n = refl
-  errors-heard f boot x n = absurd x
-  errors-heard f idle x n = absurd x
-  errors-heard f (send k) x n = absurd x
-  errors-heard f (take r) x n = absurd x
-  errors-heard f lose x n = absurd x
-  errors-heard f time x n = absurd x
-  errors-heard f sync x n = refl
-  errors-heard f (serve s) x n =
-      ap (λ (u : Served). carriedOut (h .core .device) (u .effect) .errors) (x .1)
-      ∙ errors-due (h .core .device) (f .bytes) (dueTo h f) (rw (is-request h f .1 (x .0)) at n)
+  counts-on : {t u : Bool} → t ≡ u → min 4 (cond u 0 n) ≡ min 4 (cond t 0 n)
+  counts-on e = ap (λ (t : Bool). min 4 (cond t 0 n)) (sym e)
 
-  errors-sent : (k : Kind) → Same (send k)
-  errors-sent emergency = refl
-  errors-sent sdoReply = refl
-  errors-sent heartbeat = refl
-  errors-sent (tpdo w) = refl
+  errors-by : (c : Call) (d : Device) → Altered h c d → Unemptied c → d .errors ≡ min 4 (lossesBy h s n c)
+  errors-by _ _ (heard f) e = q ∙ counts-on e
+  errors-by _ _ timed e = q
+  errors-by _ _ sent e = q
+  errors-by _ _ (refused r b) e = q
+  errors-by _ _ (took r b) e = q
+  errors-by _ _ lost e =
+      let m = h .core .device .errors in
+      ap (λ (r : Reading). cond (r .good && ltb m 4) (suc m) m) p ∙ counts s m n q h
+  errors-by _ _ (restarted f r x) e = q ∙ counts-on e
+  errors-by _ _ (served f x) e = errors-due (h .core .device) (f .bytes) (dueTo h f) (rw (is-request h f .1 x) at e) ∙ q ∙ counts-on e
 
-  module _ (s : Sensor) (n : ℕ) (p : h .core .device .reading ≡ readingOf s) (q : h .core .device .errors ≡ min 4 n) where
-    abbrev Counts : Act → Type 0
-    Counts a = acted (h .core) a .device .errors ≡ min 4 n
-
-    abbrev errors : Core → ℕ
-    errors c = c .device .errors
-
-    errors-step : (c : Call) → step h c .core .device .errors ≡ min 4 (lossesBy h s n c)
-    errors-step (receive f) =
-        by (λ (m : ℕ). errors (step h (receive f) .core) ≡ min 4 m) (empties h f)
-        (λ e. ap (λ (d : Device). d .errors) (written-by h v (is-emptied h f .0 e)) ∙ emptied-errors (h .core .device) 0)
-        (λ e. ap errors (core-step h (receive f)) ∙ errors-heard f (meant h (receive f)) (cause h f v) e ∙ q)
-    errors-step tick = ap errors (core-step h tick) ∙ by Counts (isInitialising (h .core)) (λ _. q) (λ _. q)
-    errors-step (sample Missing) =
-        let e = h .core .device .errors in
-        ap errors (core-step h (sample Missing)) ∙ ap (λ (r : Reading). cond (r .good && ltb e 4) (suc e) e) p ∙ counts s e n q h
-    errors-step (sample (Raw r)) = ap errors (core-step h (sample (Raw r))) ∙ by Counts (ltb 1048575 r) (λ _. q) (λ _. q)
-    errors-step slot =
-        ap errors (core-step h slot)
-        ∙ by Counts (isInitialising (h .core)) (λ _. q)
-        (λ _. by Counts (eqb (first (h .line)) 0) (λ _. q) (λ _. errors-sent (kindOf (first (h .line))) ∙ q))
+  errors-step : Valid h → (c : Call) → step h c .core .device .errors ≡ min 4 (lossesBy h s n c)
+  errors-step v (receive f) =
+      test (empties h f)
+      (λ e. ap (λ (d : Device). d .errors) (written-by h v (is-emptied h f .0 e)) ∙ emptied-errors (h .core .device) 0 ∙ counts-on e)
+      (errors-by (receive f) _ (altered h v (receive f)))
+  errors-step v tick = errors-by tick _ (altered h v tick) tt
+  errors-step v (sample t) = errors-by (sample t) _ (altered h v (sample t)) tt
+  errors-step v slot = errors-by slot _ (altered h v slot) tt
 
 errors-after : (cs : List Call) (h : Head) (s : Sensor) (n : ℕ) → Valid h → h .core .device .reading ≡ readingOf s → h .core .device .errors ≡ min 4 n
     → after h cs .core .device .errors ≡ min 4 (losses h s n cs)
 errors-after [] h s n v p q = q
 errors-after (c ∷ cs) h s n v p q =
-    errors-after cs (step h c) (sampleBy s c) (lossesBy h s n c) (valid-step h c v) (reading-step h v s c p) (errors-step h v s n p q c)
+    errors-after cs (step h c) (sampleBy s c) (lossesBy h s n c) (valid-step h c v) (reading-step h v s c p) (errors-step h s n p q v c)
 
 none-lost : (p : PowerUp) → powered p .core .device .errors ≡ 0
 none-lost p = by (λ (a : Answer). a .head .core .device .errors ≡ 0) (within 1 127 (p .number)) (λ _. refl) (λ _. refl)

@@ -15,6 +15,7 @@ pub mod Causes
 pub mod Laws
 pub mod Histories
 pub mod Identifiers
+pub mod Altered
 pub mod Service
 pub mod Replies
 pub mod Readings

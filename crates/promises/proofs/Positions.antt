@@ -1,13 +1,13 @@
 -- The position is 01's formula, an accepted preset makes it read the preset, and a position frame carries what 6004h reads: `positioned`, of specs/Readings.antt.
 use Prim.Native.Nat.{ℕ, _<_, _≤_}
 use native.Mathlib.Omega.{arith}
-use lib.Dec.{eqb, leb, ltb}
+use lib.Dec.{eqb, leb}
 use mathlib.Core.Path.{_≡_, refl, sym, ap, _∙_}
 use mathlib.Core.Bool.{Bool, true, false, not, _&&_, _||_, cond}
-use mathlib.Core.List.{List}
+use mathlib.Core.List.{List, [], _∷_}
 use mathlib.Core.Option.{Option, some}
 use borrow.Author.Tests.{leb-true, not-false}
-use Rattle.cases.proofs.Cases.{by, test, both, neither}
+use Rattle.cases.proofs.Cases.{test, both, neither}
 use Rattle.can.specs.declared.Frame.{Frame}
 use Rattle.can.specs.declared.Received.{Received}
 use Rattle.can.proofs.Number.{numbers}
@@ -23,27 +23,27 @@ use Rattle.dictionary.specs.Accepted.{on, within, barred}
 use Rattle.dictionary.specs.Writes.{rescales, written}
 use Rattle.dictionary.proofs.Accepted.{taken}
 use Rattle.dictionary.proofs.Laws.{laws as dictionary-laws}
-use Rattle.sdo.specs.declared.reply.Served.{Served}
 use Rattle.sdo.specs.Reply.{confirmed, carriedOut}
 use Rattle.sdo.specs.Service.{Due, none, value, confirmation, abort, answer}
 use Rattle.sdo.specs.Laws.{Confirmed}
 use Rattle.sdo.proofs.Laws.{laws as sdo-laws}
-use Rattle.waiting.specs.Line.{first}
 use Rattle.parts.specs.declared.Core.{Core}
 use Rattle.parts.specs.declared.Head.{Head}
 use Rattle.parts.specs.declared.Sensor.the-variants.{Missing, Raw}
 use Rattle.promises.specs.States.{operational, code, isIn, isInitialising, communication, good, pdo, ofNode, ofCommunication}
-use Rattle.promises.specs.WaitingLine.{Kind, emergency, sdoReply, heartbeat, tpdo, kindOf, frameOf}
-use Rattle.promises.specs.Acts.{Act, nothing, enter, reset, boot, idle, send, take, lose, time, sync, serve, acted}
-use Rattle.promises.specs.Calls.{Call, receive, tick, sample, slot, served, meant, step, received, slotted}
+use Rattle.promises.specs.WaitingLine.{Kind, emergency, sdoReply, heartbeat, tpdo, frameOf}
+use Rattle.promises.specs.Acts.{serve, acted}
+use Rattle.promises.specs.Calls.{Call, receive, served, meant, step, received, slotted}
 use Rattle.promises.specs.Valid.{waits, Valid}
 use Rattle.promises.specs.Meant.{dueTo, Writes}
-use Rattle.promises.specs.Histories.{Reachable}
-use Rattle.promises.specs.Readings.{readsOf, profileOf, repositions, Moves, samples, writes, resets, Carries, Positioned}
+use Rattle.promises.specs.Histories.{after, Reachable}
+use Rattle.promises.specs.Readings.{readsOf, profileOf, repositions, Moves, Unmoved, samples, writes, resets, Carries, Positioned}
+use Rattle.promises.proofs.Valid.{valid-step}
 use Rattle.promises.proofs.Slots.{boots, sends-first}
 use Rattle.promises.proofs.Slots as slots
 use Rattle.promises.proofs.Meant.{core-step}
-use Rattle.promises.proofs.Causes.{Cause, cause, requests}
+use Rattle.promises.proofs.Causes.{requests}
+use Rattle.promises.proofs.Altered.{Altered, heard, timed, sent, refused, took, lost, restarted, served as is-served, altered}
 use Rattle.promises.proofs.Histories.{valid-reachable}
 use Rattle.promises.proofs.Identifiers.{which}
 use Rattle.promises.proofs.Readings.{position-shown}
@@ -86,7 +86,7 @@ module _ (h : Head) (v : Valid h) where
   pub written-by : {f : Received} {k x : ℕ} → Writes h f k x → step h (receive f) .core .device ≡ written (h .core .device) k x
   written-by {f} {k} {x} w =
       let m : meant h (receive f) ≡ serve (confirmed (f .bytes) k x) = requests h f v (w .requests) ∙ ap (λ d. served (answer (f .bytes) d)) (w .accepted) in
-      ap (λ c. c .device) (core-step h (receive f) ∙ ap (acted (h .core)) m)
+      ap (λ (c : Core). c .device) (core-step h (receive f) ∙ ap (acted (h .core)) m)
 
   presets : (f : Received) (x : ℕ) → Writes h f 0x6003_00 x → readsOf (received h f .head) 0x6004 0 ≡ some (Number x)
   presets f x w =
@@ -99,41 +99,21 @@ module _ (h : Head) (v : Valid h) where
       position-shown (step h (receive f) .core .device) _ ∙ ap showing (written-by w)
       ∙ preset-shown d x (not-false _ present) (position-laws .presets (d .settings .profile) (d .reading .raw) x (v .device .settings .profile) below)
 
-  abbrev Kept : Act → Type 0
-  Kept a = showing (acted (h .core) a .device) ≡ showing (h .core .device)
+  kept : (c : Call) (d : Device) → (Moves h c → ⊥) → Altered h c d → showing d ≡ showing (h .core .device)
+  kept _ _ n (heard f) = refl
+  kept _ _ n timed = refl
+  kept _ _ n sent = refl
+  kept _ _ n (refused r b) = refl
+  kept _ _ n (took r b) = absurd (n (samples (Raw r) b))
+  kept _ _ n lost = absurd (n (samples Missing refl))
+  kept _ _ n (restarted f ofNode x) = absurd (n (resets f x))
+  kept _ _ n (restarted f ofCommunication x) = refl
+  kept _ _ n (is-served f x) =
+      showing-due (h .core .device) (f .bytes) (dueTo h f) (λ k u e m. n (writes f k u (record { requests = x; accepted = e }) m))
 
-  kept-heard : (f : Received) (a : Act) → Cause h f a → (Moves h (receive f) → ⊥) → Kept a
-  kept-heard f nothing x n = refl
-  kept-heard f (enter g) x n = refl
-  kept-heard f (reset ofNode) x n = absurd (n (resets f x))
-  kept-heard f (reset ofCommunication) x n = refl
-  kept-heard f boot x n = absurd x
-  kept-heard f idle x n = absurd x
-  kept-heard f (send k) x n = absurd x
-  kept-heard f (take r) x n = absurd x
-  kept-heard f lose x n = absurd x
-  kept-heard f time x n = absurd x
-  kept-heard f sync x n = refl
-  kept-heard f (serve s) x n =
-      ap (λ (u : Served). showing (carriedOut (h .core .device) (u .effect))) (x .1)
-      ∙ showing-due (h .core .device) (f .bytes) (dueTo h f) (λ k u e m. n (writes f k u (record { requests = x .0; accepted = e }) m))
-
-  kept-sent : (k : Kind) → Kept (send k)
-  kept-sent emergency = refl
-  kept-sent sdoReply = refl
-  kept-sent heartbeat = refl
-  kept-sent (tpdo w) = refl
-
-  kept : (c : Call) → (Moves h c → ⊥) → Kept (meant h c)
-  kept (receive f) n = kept-heard f (meant h (receive f)) (cause h f v) n
-  kept tick n = by Kept (isInitialising (h .core)) (λ _. refl) (λ _. refl)
-  kept (sample Missing) n = absurd (n (samples Missing refl))
-  kept (sample (Raw r)) n = by Kept (ltb 1048575 r) (λ _. refl) (λ e. absurd (n (samples (Raw r) e)))
-  kept slot n = by Kept (isInitialising (h .core)) (λ _. refl) (λ _. by Kept (eqb (first (h .line)) 0) (λ _. refl) (λ _. kept-sent (kindOf (first (h .line)))))
-
-  stays : (c : Call) → (Moves h c → ⊥) → readsOf (step h c) 0x6004 0 ≡ readsOf h 0x6004 0
-  stays c n =
-      position-shown (step h c .core .device) _ ∙ ap (λ (x : Core). showing (x .device)) (core-step h c) ∙ kept c n
+  stays-by : (c : Call) → (Moves h c → ⊥) → readsOf (step h c) 0x6004 0 ≡ readsOf h 0x6004 0
+  stays-by c n =
+      position-shown (step h c .core .device) _ ∙ kept c (step h c .core .device) n (altered h v c)
       ∙ sym (position-shown (h .core .device) _)
 
   -- a frame in 181h..57Fh is a position frame
@@ -170,6 +150,10 @@ module _ (h : Head) (v : Valid h) where
       let k = which h v s w in
       carries-as (leb-true _ _ (u .0)) high (k .0) (k .2) (slots.answers h (sends-first h v s (k .0) (k .1)) .1))
 
+stays : (cs : List Call) (h : Head) → Valid h → Unmoved h cs → readsOf (after h cs) 0x6004 0 ≡ readsOf h 0x6004 0
+stays [] h v u = refl
+stays (c ∷ cs) h v u = stays cs (step h c) (valid-step h c v) (u .1) ∙ stays-by h v c (u .0)
+
 pub positioned : (h : Head) → Reachable h → Positioned h
 positioned h r =
     let v = valid-reachable h r in
@@ -178,6 +162,6 @@ positioned h r =
       formula = λ n. position-laws .positions (profileOf h) n p;
       mirrors = λ n. position-laws .mirrors (profileOf h) n p;
       presets = presets h v;
-      stays = stays h v;
+      stays = λ cs. stays cs h v;
       carries = carries h v;
     }

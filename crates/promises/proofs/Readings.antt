@@ -1,15 +1,13 @@
 -- The reading is the last sample taken, and what 6004h, 1001h and 6503h tell of it: `tells`, of specs/Readings.antt.
 use Prim.Native.Nat.{ℕ}
 use native.Mathlib.Omega.{arith}
-use lib.Dec.{eqb, ltb}
 use mathlib.Core.Path.{_≡_, refl, sym, ap, _∙_}
 use mathlib.Core.Logic.{_↔_}
 use mathlib.Core.Bool.{Bool, true, not, cond}
 use mathlib.Core.List.{List, [], _∷_}
 use mathlib.Core.Option.{some}
 use borrow.Author.Tests.{eqb-true}
-use Rattle.cases.proofs.Cases.{by, by₂}
-use Rattle.can.specs.declared.Received.{Received}
+use Rattle.cases.proofs.Cases.{by}
 use Rattle.position.specs.declared.Profile.{Profile}
 use Rattle.position.specs.Position.{position}
 use Rattle.entries.specs.declared.Device.{Device}
@@ -28,21 +26,18 @@ use Rattle.sdo.specs.declared.reply.Effect.the-variants.{Nothing, Reply, Write}
 use Rattle.sdo.specs.Request.{top, indexOf, subOf, reading}
 use Rattle.sdo.specs.Reply.{carriedOut}
 use Rattle.sdo.specs.Service.{value, abort, isBlank, numberIn, due}
-use Rattle.waiting.specs.Line.{first}
 use Rattle.parts.specs.declared.Head.{Head}
 use Rattle.parts.specs.declared.Answer.{Answer}
 use Rattle.parts.specs.declared.Sensor.{Sensor}
 use Rattle.parts.specs.declared.Sensor.the-variants.{Missing, Raw}
-use Rattle.promises.specs.States.{operational, isIn, isInitialising, missingReading}
-use Rattle.promises.specs.WaitingLine.{Kind, emergency, sdoReply, heartbeat, tpdo, kindOf}
-use Rattle.promises.specs.Acts.{Act, nothing, enter, reset, boot, idle, send, take, lose, time, sync, serve, acted}
-use Rattle.promises.specs.Calls.{Call, receive, tick, sample, slot, meant, step}
+use Rattle.promises.specs.States.{operational, isIn, missingReading}
+use Rattle.promises.specs.Calls.{Call, step}
 use Rattle.promises.specs.Valid.{Valid}
 use Rattle.promises.specs.Histories.{after, PowerUp, powered}
+use Rattle.promises.specs.Service.{replyDue}
 use Rattle.promises.specs.Readings.{readsOf, profileOf, sampleBy, lastSample, readingOf, shownPosition, shownRegister, dueShown, Tells}
 use Rattle.promises.proofs.Valid.{valid-step}
-use Rattle.promises.proofs.Meant.{core-step}
-use Rattle.promises.proofs.Causes.{Cause, cause}
+use Rattle.promises.proofs.Altered.{Altered, heard, timed, sent, refused, took, lost, restarted, served, altered}
 use Rattle.promises.proofs.Histories.{valid-powered}
 
 -- what is due to a read
@@ -99,44 +94,18 @@ reading-carried d Nothing = refl
 reading-carried d Reply = refl
 reading-carried d (Write k v) = refl
 
-module _ (h : Head) (v : Valid h) where
-  abbrev Same : Act → Type 0
-  Same a = acted (h .core) a .device .reading ≡ h .core .device .reading
+reading-by : (h : Head) (s : Sensor) (c : Call) (d : Device) → h .core .device .reading ≡ readingOf s → Altered h c d → d .reading ≡ readingOf (sampleBy s c)
+reading-by h s _ _ e (heard f) = e
+reading-by h s _ _ e timed = e
+reading-by h s _ _ e sent = e
+reading-by h s _ _ e (refused r b) = e ∙ ap (λ (t : Bool). readingOf (cond t s (Raw r))) (sym b)
+reading-by h s _ _ e (took r b) = ap (λ (t : Bool). readingOf (cond t s (Raw r))) (sym b)
+reading-by h s _ _ e lost = refl
+reading-by h s _ _ e (restarted f r x) = e
+reading-by h s _ _ e (served f x) = reading-carried (h .core .device) (replyDue h f .effect) ∙ e
 
-  -- nor any other frame
-  reading-heard : (f : Received) (a : Act) → Cause h f a → Same a
-  reading-heard f nothing x = refl
-  reading-heard f (enter g) x = refl
-  reading-heard f (reset r) x = refl
-  reading-heard f boot x = absurd x
-  reading-heard f idle x = absurd x
-  reading-heard f (send k) x = absurd x
-  reading-heard f (take r) x = absurd x
-  reading-heard f lose x = absurd x
-  reading-heard f time x = absurd x
-  reading-heard f sync x = refl
-  reading-heard f (serve s) x = reading-carried (h .core .device) (s .effect)
-
-  reading-sent : (k : Kind) → Same (send k)
-  reading-sent emergency = refl
-  reading-sent sdoReply = refl
-  reading-sent heartbeat = refl
-  reading-sent (tpdo w) = refl
-
-  abbrev Reads : Sensor → Act → Type 0
-  Reads s a = acted (h .core) a .device .reading ≡ readingOf s
-
-  reading-acted : (s : Sensor) (c : Call) → h .core .device .reading ≡ readingOf s → Reads (sampleBy s c) (meant h c)
-  reading-acted s (receive f) e = reading-heard f (meant h (receive f)) (cause h f v) ∙ e
-  reading-acted s tick e = by (Reads s) (isInitialising (h .core)) (λ _. e) (λ _. e)
-  reading-acted s (sample Missing) e = refl
-  reading-acted s (sample (Raw r)) e = by₂ (λ (a : Act) (t : Sensor). Reads t a) (ltb 1048575 r) (λ _. e) (λ _. refl)
-  reading-acted s slot e =
-      by (Reads s) (isInitialising (h .core)) (λ _. e)
-      (λ _. by (Reads s) (eqb (first (h .line)) 0) (λ _. e) (λ _. reading-sent (kindOf (first (h .line))) ∙ e))
-
-  pub reading-step : (s : Sensor) (c : Call) → h .core .device .reading ≡ readingOf s → step h c .core .device .reading ≡ readingOf (sampleBy s c)
-  reading-step s c e = ap (λ x. x .device .reading) (core-step h c) ∙ reading-acted s c e
+pub reading-step : (h : Head) → Valid h → (s : Sensor) (c : Call) → h .core .device .reading ≡ readingOf s → step h c .core .device .reading ≡ readingOf (sampleBy s c)
+reading-step h v s c e = reading-by h s c (step h c .core .device) e (altered h v c)
 
 reading-after : (cs : List Call) (h : Head) (s : Sensor) → Valid h → h .core .device .reading ≡ readingOf s
     → after h cs .core .device .reading ≡ readingOf (lastSample s cs)

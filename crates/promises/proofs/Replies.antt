@@ -1,13 +1,13 @@
 -- A reply waits exactly while it is owed, and a slot sends as a reply only what is owed: `answers`, of specs/Service.antt.
-use Prim.Native.Nat.{ℕ, _+_}
+use Prim.Native.Nat.{ℕ, _+_, _≤_}
 use native.Mathlib.Omega.{arith}
 use lib.Dec.{eqb, leb, ltb}
 use mathlib.Core.Path.{_≡_, refl, sym, ap, _∙_}
 use mathlib.Core.Bool.{Bool, true, false, not, _&&_, cond, and-false, or-true}
-use mathlib.Core.List.{List, [], _∷_}
-use mathlib.Core.Option.{Option, none, some}
+use mathlib.Core.List.{List, [], _∷_, _++_}
+use mathlib.Core.Option.{Option, none, some, Option·none-ne-some}
 use borrow.Author.Tests.{eqb-true, eq-eqb, not-true}
-use Rattle.cases.proofs.Cases.{by, test, both, true-false}
+use Rattle.cases.proofs.Cases.{by, by₂, test, both, true-false}
 use Rattle.can.specs.declared.Frame.{Frame}
 use Rattle.can.specs.declared.Received.{Received}
 use Rattle.entries.specs.declared.Device.{Device}
@@ -21,27 +21,27 @@ use Rattle.waiting.specs.Line as line
 use Rattle.waiting.specs.Line.{has, first}
 use Rattle.waiting.specs.Places.{waiting}
 use Rattle.waiting.proofs.After.{has-append}
-use Rattle.parts.specs.declared.Core.{Core}
 use Rattle.parts.specs.declared.Head.{Head}
 use Rattle.parts.specs.declared.Answer.{Answer}
 use Rattle.parts.specs.declared.Sensor.the-variants.{Missing, Raw}
 use Rattle.promises.specs.States.{operational, stopped, preOperational, isIn, isInitialising, live, isLive, node, Command, noCommand, toEnter, toReset, commandOf}
 use Rattle.promises.specs.WaitingLine.{Kind, emergency, sdoReply, heartbeat, tpdo, number, kindOf, frameOf}
-use Rattle.promises.specs.Acts.{Act, nothing, enter, reset, boot, idle, send, take, lose, time, sync, serve, acted}
+use Rattle.promises.specs.Acts.{Act, send, acted}
 use Rattle.promises.specs.Calls.{Call, receive, tick, sample, slot, isSlot, commanded, meant, step, slotted}
 use Rattle.promises.specs.Valid.{waits, Valid}
 use Rattle.promises.specs.Meant.{Commands}
-use Rattle.promises.specs.Histories.{after, PowerUp, powered}
-use Rattle.promises.specs.Service.{replyDue, isHeard, isRequest, isAnswered, replyFrame, sendsReply, takesReply, withdrawsReply, owedBy, owed, pending, Answers}
+use Rattle.promises.specs.Histories.{after, frames, sent as sentIn, PowerUp, powered}
+use Rattle.promises.specs.Service.{replyDue, isHeard, isRequest, isAnswered, replyFrame, sendsReply, takesReply, withdrawsReply, owedBy, owed, pending, answersBy, answeredIn, repliesIn, Answers}
 use Rattle.promises.proofs.Waits.{sends, waits-act}
 use Rattle.promises.proofs.Hearing.{heard-by}
 use Rattle.promises.proofs.States.{not-live}
 use Rattle.promises.proofs.Valid.{valid-step}
 use Rattle.promises.proofs.Slots.{boots, sends-first}
 use Rattle.promises.proofs.Slots as slots
-use Rattle.promises.proofs.Meant.{core-step, enters, resets, leaves, reply-fixed}
+use Rattle.promises.proofs.Meant.{enters, resets, leaves, reply-fixed}
 use Rattle.promises.proofs.Histories.{valid-after, valid-powered}
 use Rattle.promises.proofs.Identifiers.{identifies, only-reply, which}
+use Rattle.promises.proofs.Altered.{Altered, heard, timed, sent, refused, took, lost, restarted, served, altered}
 use Rattle.promises.proofs.Service.{JoinsNot, heard-as, is-request, gets-what-is-due, unanswered}
 
 -- what a slot sends as a reply was the first in the line
@@ -69,6 +69,10 @@ stays-waiting y z s false m n = rw (and-false (not s)) (and-false (not (y && not
 same-pending : (w x : Bool) (r u : List ℕ) → x ≡ w → (w ≡ true → u ≡ r) → cond x (some u) none ≡ cond w (some r) none
 same-pending true x r u e f = ap (λ (t : Bool). cond t (some u) none) e ∙ ap some (f refl)
 same-pending false x r u e f = ap (λ (t : Bool). cond t (some u) none) e
+
+is-pending : (w : Bool) (r b : List ℕ) → cond w (some r) none ≡ some b → w ≡ true
+is-pending true r b e = refl
+is-pending false r b e = absurd (Option·none-ne-some b e)
 
 module _ (h : Head) (v : Valid h) where
   -- after an act by which it does not join, while the state is still one in which it can wait, and it is not sent
@@ -180,25 +184,56 @@ node-carried d Nothing = refl
 node-carried d Reply = refl
 node-carried d (Write k v) = refl
 
-node-act : (c : Core) (a : Act) → node (acted c a) ≡ node c
-node-act c nothing = refl
-node-act c (enter g) = refl
-node-act c (reset r) = refl
-node-act c boot = refl
-node-act c idle = refl
-node-act c (send emergency) = refl
-node-act c (send sdoReply) = refl
-node-act c (send heartbeat) = refl
-node-act c (send (tpdo w)) = refl
-node-act c (take r) = refl
-node-act c lose = refl
-node-act c time = refl
-node-act c sync = refl
-node-act c (serve s) = node-carried (c .device) (s .effect)
+node-by : (h : Head) (c : Call) (d : Device) → Altered h c d → d .node ≡ node (h .core)
+node-by h _ _ (heard f) = refl
+node-by h _ _ timed = refl
+node-by h _ _ sent = refl
+node-by h _ _ (refused r b) = refl
+node-by h _ _ (took r b) = refl
+node-by h _ _ lost = refl
+node-by h _ _ (restarted f r x) = refl
+node-by h _ _ (served f x) = node-carried (h .core .device) (replyDue h f .effect)
 
-node-after : (cs : List Call) (h : Head) → node (after h cs .core) ≡ node (h .core)
-node-after [] h = refl
-node-after (c ∷ cs) h = node-after cs (step h c) ∙ ap node (core-step h c) ∙ node-act (h .core) (meant h c)
+node-after : (cs : List Call) (h : Head) → Valid h → node (after h cs .core) ≡ node (h .core)
+node-after [] h v = refl
+node-after (c ∷ cs) h v = node-after cs (step h c) (valid-step h c v) ∙ node-by h c (step h c .core .device) (altered h v c)
+
+-- No more replies are sent than requests are answered: the one that waits is still to be sent.
+abbrev still : Option (List ℕ) → ℕ
+still none = 0
+still (some b) = 1
+
+replies-append : (n : ℕ) (a b : List Frame) → repliesIn n (a ++ b) ≡ repliesIn n a + repliesIn n b
+replies-append n [] b = omega arith
+replies-append n (f ∷ a) b = omega (arith, replies-append n a b)
+
+one-reply : (n : ℕ) (w : Bool) (f : Frame) → repliesIn n (cond w (f ∷ []) []) ≡ cond (w && eqb (f .identifier) (0x580 + n)) 1 0
+one-reply n true f = omega arith
+one-reply n false f = refl
+
+module _ (h : Head) (v : Valid h) (n : ℕ) (q : node (h .core) ≡ n) where
+  reply-by : (c : Call) → repliesIn n (frames h c) + still (owedBy h (pending h) c) ≤ still (pending h) + cond (answersBy h c) 1 0
+  reply-by (receive f) =
+      by₂ (λ (o : Option (List ℕ)) (m : ℕ). 0 + still o ≤ still (pending h) + m) (isAnswered h f) (λ _. omega arith)
+      (λ _. by (λ (o : Option (List ℕ)). 0 + still o ≤ still (pending h) + 0) (withdrawsReply h f) (λ _. omega arith) (λ _. omega arith))
+  reply-by tick = omega arith
+  reply-by (sample s) = omega arith
+  reply-by slot =
+      let waited = slotted h .waited in
+      let i = slotted h .frame .identifier in
+      let one : repliesIn n (frames h slot) ≡ cond (sendsReply h) 1 0 =
+      one-reply n waited (slotted h .frame) ∙ ap (λ (m : ℕ). cond (waited && eqb i (0x580 + m)) 1 0) (sym q) in
+      let most : cond (sendsReply h) 1 0 + still (cond (sendsReply h) none (pending h)) ≤ still (pending h) =
+      by₂ (λ (m : ℕ) (o : Option (List ℕ)). m + still o ≤ still (pending h)) (sendsReply h)
+      (λ s. omega (arith, ap (λ (t : Bool). still (cond t (some (h .core .reply)) none)) (replies-first h v s .2)))
+      (λ _. omega arith) in
+      omega (arith, one, most)
+
+no-more : (n : ℕ) (cs : List Call) (h : Head) → Valid h → node (h .core) ≡ n → repliesIn n (sentIn h cs) ≤ still (pending h) + answeredIn h cs
+no-more n [] h v q = omega arith
+no-more n (c ∷ cs) h v q =
+    let tail = no-more n cs (step h c) (valid-step h c v) (node-by h c (step h c .core .device) (altered h v c) ∙ q) in
+    omega (arith, replies-append n (frames h c) (sentIn (step h c) cs), reply-by h v n q c, tail, ap still (pending-step h v c))
 
 -- at power-up none waits
 none-owed : (p : PowerUp) → pending (powered p) ≡ none
@@ -208,8 +243,19 @@ module _ (p : PowerUp) (cs : List Call) where
   exactly : pending (after (powered p) cs) ≡ owed (powered p) none cs
   exactly = pending-after cs (powered p) (valid-powered p) ∙ ap (λ (o : Option (List ℕ)). owed (powered p) o cs) (none-owed p)
 
+  alone : (b : List ℕ) → owed (powered p) none cs ≡ some b → (f : Received) → isAnswered (after (powered p) cs) f ≡ false
+  alone b e f =
+      let h = after (powered p) cs in
+      let w = is-pending (waits h sdoReply) (h .core .reply) b (exactly ∙ e) in
+      test (isAnswered h f)
+      (λ a. true-false (sym w ∙ is-request h f .0 (both (isRequest h f) (not (aborting (f .bytes))) a .0) .free))
+      (λ n. n)
+
+  at-most-one : repliesIn (node (powered p .core)) (sentIn (powered p) cs) ≤ answeredIn (powered p) cs
+  at-most-one = omega (arith, no-more (node (powered p .core)) cs (powered p) (valid-powered p) refl, ap still (none-owed p))
+
   pub answers : Answers p cs
-  answers = record { exactly = exactly; sends = sends-owed }
+  answers = record { exactly = exactly; alone = alone; sends = sends-owed; at-most-one = at-most-one }
     where
       sends-owed : let h = after (powered p) cs in sendsReply h ≡ true
           → (b : List ℕ) × (owed (powered p) none cs ≡ some b) × (slotted h .frame ≡ replyFrame (node (powered p .core)) b)
@@ -220,5 +266,5 @@ module _ (p : PowerUp) (cs : List Call) where
           let frame : slotted h .frame ≡ replyFrame (node (h .core)) (h .core .reply) = slots.answers h (sends-first h v (u .0) sdoReply (u .1)) .1 in (
             h .core .reply,
             sym exactly ∙ ap (λ (t : Bool). cond t (some (h .core .reply)) none) (u .2),
-            frame ∙ ap (λ (n : ℕ). replyFrame n (h .core .reply)) (node-after cs (powered p)),
+            frame ∙ ap (λ (n : ℕ). replyFrame n (h .core .reply)) (node-after cs (powered p) (valid-powered p)),
           )

@@ -29,6 +29,7 @@ use Rattle.parts.specs.declared.Sensor.the-variants.{Missing, Raw}
 use Rattle.promises.specs.States.{operational, isIn, communication, missingReading, Which, pdo, ofNode, toReset}
 use Rattle.promises.specs.Calls.{Call, receive, tick, sample, slot, badSample, step, received, slotted}
 use Rattle.promises.specs.Meant.{Commands, dueTo, Writes}
+use Rattle.promises.specs.Histories.{after}
 
 -- what the entry i-j of the head reads
 abbrev pub readsOf : Head → ℕ → ℕ → Option Shown
@@ -67,7 +68,7 @@ abbrev pub dueShown : ℕ → Shown → Due
 dueShown width Blank = abort 0x08000024
 dueShown width (Number n) = value width n
 
--- The last sample being s. Before the first it is missing, and 6004h is blank, not 0.
+-- Of every sequence of calls from power-up, s being its last sample. Before the first it is missing, and 6004h is blank, not 0.
 pub record Tells (h : Head) (s : Sensor) : Type 0 where
   pub reading-is : h .core .device .reading ≡ readingOf s
   pub position : readsOf h 0x6004 0 ≡ some (shownPosition (profileOf h) s)
@@ -87,6 +88,11 @@ pub data Moves (h : Head) : Call → Type 0 where
   writes : (f : Received) (k v : ℕ) → Writes h f k v → repositions k ≡ true → Moves h (receive f)
   resets : (f : Received) → Commands h f (toReset ofNode) → Moves h (receive f)
 
+-- none of the calls does
+abbrev pub Unmoved : Head → List Call → Type 0
+Unmoved h [] = Unit {0}
+Unmoved h (c ∷ cs) = (Moves h c → ⊥) × Unmoved (step h c) cs
+
 -- TPDO: 4 bytes, the position, low byte first: the one that 6004h reads, and nothing of it is lost.
 pub record Carries (h : Head) (f : Frame) : Type 0 where
   pub which : Which
@@ -97,6 +103,7 @@ pub record Carries (h : Head) (f : Frame) : Type 0 where
   pub its-bytes : f .bytes ≡ pad 8 (lowFirst 4 position)
   pub whole : bytes.number (lowFirst 4 position) ≡ position
 
+-- Of every reachable head.
 pub record Positioned (h : Head) : Type 0 where
   -- Position = (d + offset) mod T, never negative: the one number below T that differs from d + offset by a multiple of T
   pub formula : (r : ℕ) → Positions (profileOf h) r
@@ -104,7 +111,7 @@ pub record Positioned (h : Head) : Type 0 where
   pub mirrors : (r : ℕ) → Mirrors (profileOf h) r
   -- Accepted 6003h = p: .. so the position reads p,
   pub presets : (f : Received) (v : ℕ) → Writes h f 0x6003_00 v → readsOf (received h f .head) 0x6004 0 ≡ some (Number v)
-  -- and stays until a call alters it
-  pub stays : (c : Call) → (Moves h c → ⊥) → readsOf (step h c) 0x6004 0 ≡ readsOf h 0x6004 0
+  -- and goes on reading it until a call alters it
+  pub stays : (cs : List Call) → Unmoved h cs → readsOf (after h cs) 0x6004 0 ≡ readsOf h 0x6004 0
   -- The frame carries the position at the slot. No other frame has an identifier in 181h..57Fh.
   pub carries : slotted h .waited ≡ true → within 0x181 0x57F (slotted h .frame .identifier) ≡ true → Carries h (slotted h .frame)

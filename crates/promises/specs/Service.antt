@@ -1,5 +1,5 @@
 -- Demand 2, of service requests: each that is served gets the reply due to it, over any sequence of calls. 01's chapter "Service requests".
-use Prim.Native.Nat.{ℕ, _+_}
+use Prim.Native.Nat.{ℕ, _+_, _≤_}
 use lib.Dec.{eqb}
 use mathlib.Core.Path.{_≡_}
 use mathlib.Core.Logic.{_↔_}
@@ -21,7 +21,7 @@ use Rattle.promises.specs.WaitingLine.{sdoReply, number}
 use Rattle.promises.specs.Calls.{Call, receive, tick, sample, slot, step, received, slotted}
 use Rattle.promises.specs.Valid.{waits}
 use Rattle.promises.specs.Meant.{Requests, dueTo}
-use Rattle.promises.specs.Histories.{after, PowerUp, powered}
+use Rattle.promises.specs.Histories.{after, sent, PowerUp, powered}
 
 -- the reply due to a request, and what it does
 abbrev pub replyDue : Head → Received → Served
@@ -83,7 +83,22 @@ owed h o (c ∷ cs) = owed (step h c) (owedBy h o c) cs
 abbrev pub pending : Head → Option (List ℕ)
 pending h = cond (waits h sdoReply) (some (h .core .reply)) none
 
--- of a head
+-- how many requests are answered, and how many replies of node n are among the frames
+abbrev pub answersBy : Head → Call → Bool
+answersBy h (receive f) = isAnswered h f
+answersBy h tick = false
+answersBy h (sample s) = false
+answersBy h slot = false
+
+abbrev pub answeredIn : Head → List Call → ℕ
+answeredIn h [] = 0
+answeredIn h (c ∷ cs) = cond (answersBy h c) 1 0 + answeredIn (step h c) cs
+
+abbrev pub repliesIn : ℕ → List Frame → ℕ
+repliesIn n [] = 0
+repliesIn n (f ∷ fs) = cond (eqb (f .identifier) (0x580 + n)) 1 0 + repliesIn n fs
+
+-- Of every reachable head.
 pub record Serves (h : Head) : Type 0 where
   pub is-request : (f : Received) → (isRequest h f ≡ true) ↔ Requests h f
   -- First that applies
@@ -91,10 +106,14 @@ pub record Serves (h : Head) : Type 0 where
   -- While a reply waits, a further request has no effect.
   pub busy : (f : Received) → f .identifier ≡ 0x600 + node (h .core) → waits h sdoReply ≡ true → received h f .head ≡ h
 
--- of the calls since power-up
+-- Of every sequence of calls from power-up.
 pub record Answers (p : PowerUp) (cs : List Call) : Type 0 where
   -- a reply waits exactly while it is owed, and with these bytes
   pub exactly : pending (after (powered p) cs) ≡ owed (powered p) none cs
+  -- no other request is answered before it has gone
+  pub alone : (b : List ℕ) → owed (powered p) none cs ≡ some b → (f : Received) → isAnswered (after (powered p) cs) f ≡ false
   -- and what a slot sends as a reply is what is owed
   pub sends : let h = after (powered p) cs in sendsReply h ≡ true
       → (b : List ℕ) × (owed (powered p) none cs ≡ some b) × (slotted h .frame ≡ replyFrame (node (powered p .core)) b)
+  -- to each request at most one reply
+  pub at-most-one : repliesIn (node (powered p .core)) (sent (powered p) cs) ≤ answeredIn (powered p) cs
