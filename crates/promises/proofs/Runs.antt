@@ -14,8 +14,10 @@ serving =
       requests = record { hears = record { unrefused = refl; heard = refl }; identifier = refl; length = refl; live = refl; free = refl };
       sends-first = refl;
       owes-first = refl;
+      answers-first = refl;
       sends-next = refl;
       owes-next = refl;
+      answers-next = refl;
       withdrawn = refl;
     }
 
@@ -23,11 +25,13 @@ pub positioning : Positioning
 unfolding entries table lookup shownAt written due act settledTo
 positioning =
     record {
+      blank-at-first = refl;
       presets =
           record {
             requests = record { hears = record { unrefused = refl; heard = refl }; identifier = refl; length = refl; live = refl; free = refl };
             accepted = refl;
           };
+      reads-preset = refl;
       waits = refl;
       shows = refl;
     }

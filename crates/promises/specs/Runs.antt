@@ -12,7 +12,7 @@ use Rattle.parts.specs.declared.Sensor.the-variants.{Missing, Raw}
 use Rattle.promises.specs.Calls.{Call, receive, sample, slot, slotted}
 use Rattle.promises.specs.Meant.{Requests, Writes}
 use Rattle.promises.specs.Histories.{after}
-use Rattle.promises.specs.Worked.{node1, request, at}
+use Rattle.promises.specs.Worked.{node1, request, answer, sends, at, preset}
 use Rattle.promises.specs.Service.{sendsReply, owed}
 use Rattle.promises.specs.Readings.{readsOf}
 use Rattle.promises.specs.ErrorList.{losses}
@@ -47,8 +47,10 @@ pub record Serving : Type 0 where
   pub requests : Requests (after node1 (slot ∷ [])) (dataFrame 0x601 8 p1)
   pub sends-first : sendsReply (after node1 asked) ≡ true
   pub owes-first : owed node1 none asked ≡ some (bytes 0x43 0x01 0x65 0x00 0x88 0x13 0x00 0x00)
+  pub answers-first : answer (after node1 asked) ≡ sends 0x581 8 (bytes 0x43 0x01 0x65 0x00 0x88 0x13 0x00 0x00)
   pub sends-next : sendsReply (after node1 askedAgain) ≡ true
   pub owes-next : owed node1 none askedAgain ≡ some (bytes 0x80 0x17 0x10 0x00 0x13 0x00 0x07 0x06)
+  pub answers-next : answer (after node1 askedAgain) ≡ sends 0x581 8 (bytes 0x80 0x17 0x10 0x00 0x13 0x00 0x07 0x06)
   pub withdrawn : owed node1 none (asked ++ stopping ∷ []) ≡ none
 
 -- Pre-operational, at 100
@@ -56,7 +58,9 @@ abbrev pub ready : List Call
 ready = slot ∷ slot ∷ at 100
 
 pub record Positioning : Type 0 where
+  pub blank-at-first : readsOf node1 0x6004 0 ≡ some Blank
   pub presets : Writes (after node1 ready) (dataFrame 0x601 8 (bytes 0x23 0x03 0x60 0x00 0x28 0 0 0)) 0x6003_00 40
+  pub reads-preset : readsOf (after node1 (ready ++ preset)) 0x6004 0 ≡ some (Number 40)
   pub waits : slotted (after node1 (ready ++ starting ∷ [])) .waited ≡ true
   pub shows : within 0x181 0x57F (slotted (after node1 (ready ++ starting ∷ [])) .frame .identifier) ≡ true
 
