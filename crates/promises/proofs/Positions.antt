@@ -37,7 +37,7 @@ use Rattle.promises.specs.Calls.{Call, receive, served, meant, step, rec
 use Rattle.promises.specs.Valid.{waits, Valid}
 use Rattle.promises.specs.Meant.{dueTo, Writes}
 use Rattle.promises.specs.Histories.{after, Reachable}
-use Rattle.promises.specs.Readings.{readsOf, profileOf, repositions, Moves, Unmoved, samples, writes, resets, Carries, Positioned}
+use Rattle.promises.specs.Readings.{readsIn, profileOf, repositions, Moves, Unmoved, samples, writes, resets, Carries, Positioned}
 use Rattle.promises.proofs.Valid.{valid-step}
 use Rattle.promises.proofs.Slots.{boots, sends-first}
 use Rattle.promises.proofs.Slots as slots
@@ -88,7 +88,7 @@ module _ (h : Head) (v : Valid h) where
       let m : meant h (receive f) ≡ serve (confirmed (f .bytes) k x) = requests h f v (w .requests) ∙ ap (λ d. served (answer (f .bytes) d)) (w .accepted) in
       ap (λ (c : Core). c .device) (core-step h (receive f) ∙ ap (acted (h .core)) m)
 
-  presets : (f : Received) (x : ℕ) → Writes h f 0x6003_00 x → readsOf (received h f .head) 0x6004 0 ≡ some (Number x)
+  presets : (f : Received) (x : ℕ) → Writes h f 0x6003_00 x → readsIn (received h f .head) 0x6004 0 ≡ some (Number x)
   presets f x w =
       let d = h .core .device in
       let o = isIn operational (h .core) in
@@ -111,7 +111,7 @@ module _ (h : Head) (v : Valid h) where
   kept _ _ n (is-served f x) =
       showing-due (h .core .device) (f .bytes) (dueTo h f) (λ k u e m. n (writes f k u (record { requests = x; accepted = e }) m))
 
-  stays-by : (c : Call) → (Moves h c → ⊥) → readsOf (step h c) 0x6004 0 ≡ readsOf h 0x6004 0
+  stays-by : (c : Call) → (Moves h c → ⊥) → readsIn (step h c) 0x6004 0 ≡ readsIn h 0x6004 0
   stays-by c n =
       position-shown (step h c .core .device) _ ∙ kept c (step h c .core .device) n (altered h v c)
       ∙ sym (position-shown (h .core .device) _)
@@ -150,7 +150,7 @@ module _ (h : Head) (v : Valid h) where
       let k = which h v s w in
       carries-as (leb-true _ _ (u .0)) high (k .0) (k .2) (slots.answers h (sends-first h v s (k .0) (k .1)) .1))
 
-stays : (cs : List Call) (h : Head) → Valid h → Unmoved h cs → readsOf (after h cs) 0x6004 0 ≡ readsOf h 0x6004 0
+stays : (cs : List Call) (h : Head) → Valid h → Unmoved h cs → readsIn (after h cs) 0x6004 0 ≡ readsIn h 0x6004 0
 stays [] h v u = refl
 stays (c ∷ cs) h v u = stays cs (step h c) (valid-step h c v) (u .1) ∙ stays-by h v c (u .0)
 

@@ -35,7 +35,7 @@ use Rattle.promises.specs.Calls.{Call, step}
 use Rattle.promises.specs.Valid.{Valid}
 use Rattle.promises.specs.Histories.{after, PowerUp, powered}
 use Rattle.promises.specs.Service.{replyDue}
-use Rattle.promises.specs.Readings.{readsOf, profileOf, sampleBy, lastSample, readingOf, shownPosition, shownRegister, dueShown, Tells}
+use Rattle.promises.specs.Readings.{readsIn, profileOf, sampleBy, lastSample, readingOf, shownPosition, shownRegister, dueShown, Tells}
 use Rattle.promises.proofs.Valid.{valid-step}
 use Rattle.promises.proofs.Altered.{Altered, heard, timed, sent, refused, took, lost, restarted, served, altered}
 use Rattle.promises.proofs.Histories.{valid-powered}
@@ -122,7 +122,7 @@ tells-of h s e =
     let o = isIn operational (h .core) in
     let shown : shownAs d o (d .reading) ≡ shownPosition (profileOf h) s = ap (shownAs d o) e ∙ by-sample (profileOf h) s in
     let register : Number (cond (not (d .reading .good)) 1 0) ≡ shownRegister s = ap (λ (r : Reading). Number (cond (not (r .good)) 1 0)) e ∙ register-by s in
-    let reads-it : readsOf h 0x6004 0 ≡ some (shownPosition (profileOf h) s) = position-shown d o ∙ ap some shown in
+    let reads-it : readsIn h 0x6004 0 ≡ some (shownPosition (profileOf h) s) = position-shown d o ∙ ap some shown in
     let blank = blank-by (profileOf h) s in
     record {
       reading-is = e;

@@ -7,7 +7,7 @@ use mathlib.Core.Bool.{Bool, true, false, not, _&&_, _||_, cond, and-false}
 use mathlib.Core.List.{List, [], _∷_, _++_}
 use mathlib.Core.Option.{none}
 use borrow.Author.Tests.{eqb-true, eq-eqb, not-true}
-use Rattle.cases.proofs.Cases.{test, both, neither, true-false}
+use Rattle.cases.proofs.Cases.{test, both, true-false}
 use Rattle.can.specs.declared.Received.{Received}
 use Rattle.can.specs.Frame.{refusalOf}
 use Rattle.sdo.specs.declared.reply.Served.{Served}
@@ -18,6 +18,7 @@ use Rattle.waiting.specs.Line.{places, has, join}
 use Rattle.waiting.specs.Places.{waiting}
 use Rattle.waiting.specs.Calls.{withdraws, joins}
 use Rattle.waiting.proofs.After.{has-join, has-withdraws}
+use Rattle.waiting.proofs.Order.{join-is}
 use Rattle.waiting.proofs.Laws.{laws}
 use Rattle.parts.specs.declared.Core.{Core}
 use Rattle.parts.specs.declared.Head.{Head}
@@ -37,16 +38,13 @@ use Rattle.promises.proofs.Meant.{core-step}
 use Rattle.promises.proofs.Causes.{Cause, cause, requests}
 use Rattle.promises.proofs.Histories.{valid-reachable}
 
--- a kind that does not wait joins at the end
-joins-last : (ws : List ℕ) (k : ℕ) → has k ws ≡ false → join ws k ≡ ws ++ k ∷ []
-joins-last [] k e = refl
-joins-last (x ∷ xs) k e = let n = neither (eqb x k) (has k xs) e in rw (n .0, joins-last xs k (n .1))
-
+-- the reply joins at the end, behind the emergency where that joins too
 last-in : (alerts replies : Bool) (ws : List ℕ) → has (number sdoReply) ws ≡ false → replies ≡ true
     → let reply = cond replies (number sdoReply ∷ []) [] in
     (ahead : List ℕ) × (joins ws (cond alerts (number emergency ∷ reply) reply) ≡ ahead ++ number sdoReply ∷ [])
-last-in true true ws n e = (join ws (number emergency), joins-last (join ws (number emergency)) _ (rw (has-join (number sdoReply) (number emergency) ws, n)))
-last-in false true ws n e = (ws, joins-last ws _ n)
+last-in true true ws n e =
+    (join ws (number emergency), rw (join-is (join ws (number emergency)) (number sdoReply), has-join (number sdoReply) (number emergency) ws, n))
+last-in false true ws n e = (ws, rw (join-is ws (number sdoReply), n))
 last-in alerts false ws n e = true-false (sym e)
 
 -- an act by which no reply joins

@@ -17,7 +17,7 @@ use Rattle.promises.specs.Calls.{Call, receive, tick, sample, slot, step
 use Rattle.promises.specs.Meant.{dueTo, Writes}
 use Rattle.promises.specs.Histories.{after, PowerUp, powered}
 use Rattle.promises.specs.Service.{isRequest}
-use Rattle.promises.specs.Readings.{readsOf, sampleBy}
+use Rattle.promises.specs.Readings.{readsIn, sampleBy}
 
 -- the confirmation of a write to the entry of key k
 abbrev pub confirms : ℕ → Due → Bool
@@ -50,8 +50,8 @@ shownError count j = cond (ltb count j) Blank (Number 0x5000)
 
 -- The count being n.
 pub record Lists (h : Head) (n : ℕ) : Type 0 where
-  pub count : readsOf h 0x1003 0 ≡ some (Number n)
-  pub error : (j : ℕ) → 1 ≤ j → j ≤ 4 → readsOf h 0x1003 j ≡ some (shownError n j)
+  pub count : readsIn h 0x1003 0 ≡ some (Number n)
+  pub error : (j : ℕ) → 1 ≤ j → j ≤ 4 → readsIn h 0x1003 j ≡ some (shownError n j)
   pub emptied : (f : Received) → (empties h f ≡ true) ↔ Writes h f 0x1003_00 0
 
 abbrev pub ErrorList : PowerUp → List Call → Type 0

@@ -32,8 +32,8 @@ use Rattle.promises.specs.Meant.{Commands, dueTo, Writes}
 use Rattle.promises.specs.Histories.{after}
 
 -- what the entry i-j of the head reads
-abbrev pub readsOf : Head → ℕ → ℕ → Option Shown
-readsOf h i j = reads (h .core .device) (isIn operational (h .core)) i j
+abbrev pub readsIn : Head → ℕ → ℕ → Option Shown
+readsIn h i j = reads (h .core .device) (isIn operational (h .core)) i j
 
 abbrev pub profileOf : Head → Profile
 profileOf h = h .core .device .settings .profile
@@ -71,10 +71,10 @@ dueShown width (Number n) = value width n
 -- Of every sequence of calls from power-up, s being its last sample. Before the first it is missing, and 6004h is blank, not 0.
 pub record Tells (h : Head) (s : Sensor) : Type 0 where
   pub reading-is : h .core .device .reading ≡ readingOf s
-  pub position : readsOf h 0x6004 0 ≡ some (shownPosition (profileOf h) s)
-  pub blank : (readsOf h 0x6004 0 ≡ some Blank) ↔ (s ≡ Missing)
-  pub register : readsOf h 0x1001 0 ≡ some (shownRegister s)
-  pub status : readsOf h 0x6503 0 ≡ some (shownRegister s)
+  pub position : readsIn h 0x6004 0 ≡ some (shownPosition (profileOf h) s)
+  pub blank : (readsIn h 0x6004 0 ≡ some Blank) ↔ (s ≡ Missing)
+  pub register : readsIn h 0x1001 0 ≡ some (shownRegister s)
+  pub status : readsIn h 0x6503 0 ≡ some (shownRegister s)
   pub asked : (f : Received) → reading (f .bytes) ≡ true → indexOf (f .bytes) ≡ 0x6004 → subOf (f .bytes) ≡ 0
       → dueTo h f ≡ dueShown 4 (shownPosition (profileOf h) s)
 
@@ -99,7 +99,7 @@ pub record Carries (h : Head) (f : Frame) : Type 0 where
   pub identifier : f .identifier ≡ pdo (communication (h .core)) which .identifier
   pub length : f .length ≡ 4
   pub position : ℕ
-  pub reads-it : readsOf h 0x6004 0 ≡ some (Number position)
+  pub reads-it : readsIn h 0x6004 0 ≡ some (Number position)
   pub its-bytes : f .bytes ≡ pad 8 (lowFirst 4 position)
   pub whole : bytes.number (lowFirst 4 position) ≡ position
 
@@ -110,8 +110,8 @@ pub record Positioned (h : Head) : Type 0 where
   -- Direction 0: d = c; 1: d = T − 1 − c
   pub mirrors : (r : ℕ) → Mirrors (profileOf h) r
   -- Accepted 6003h = p: .. so the position reads p,
-  pub presets : (f : Received) (v : ℕ) → Writes h f 0x6003_00 v → readsOf (received h f .head) 0x6004 0 ≡ some (Number v)
+  pub presets : (f : Received) (v : ℕ) → Writes h f 0x6003_00 v → readsIn (received h f .head) 0x6004 0 ≡ some (Number v)
   -- and goes on reading it until a call alters it
-  pub stays : (cs : List Call) → Unmoved h cs → readsOf (after h cs) 0x6004 0 ≡ readsOf h 0x6004 0
+  pub stays : (cs : List Call) → Unmoved h cs → readsIn (after h cs) 0x6004 0 ≡ readsIn h 0x6004 0
   -- The frame carries the position at the slot. No other frame has an identifier in 181h..57Fh.
   pub carries : slotted h .waited ≡ true → within 0x181 0x57F (slotted h .frame .identifier) ≡ true → Carries h (slotted h .frame)

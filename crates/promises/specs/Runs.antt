@@ -14,7 +14,7 @@ use Rattle.promises.specs.Meant.{Requests, Writes}
 use Rattle.promises.specs.Histories.{after}
 use Rattle.promises.specs.Worked.{node1, request, answer, sends, at, preset}
 use Rattle.promises.specs.Service.{sendsReply, owed}
-use Rattle.promises.specs.Readings.{readsOf}
+use Rattle.promises.specs.Readings.{readsIn}
 use Rattle.promises.specs.ErrorList.{losses}
 
 -- a data frame
@@ -58,9 +58,9 @@ abbrev pub ready : List Call
 ready = slot ∷ slot ∷ at 100
 
 pub record Positioning : Type 0 where
-  pub blank-at-first : readsOf node1 0x6004 0 ≡ some Blank
+  pub blank-at-first : readsIn node1 0x6004 0 ≡ some Blank
   pub presets : Writes (after node1 ready) (dataFrame 0x601 8 (bytes 0x23 0x03 0x60 0x00 0x28 0 0 0)) 0x6003_00 40
-  pub reads-preset : readsOf (after node1 (ready ++ preset)) 0x6004 0 ≡ some (Number 40)
+  pub reads-preset : readsIn (after node1 (ready ++ preset)) 0x6004 0 ≡ some (Number 40)
   pub waits : slotted (after node1 (ready ++ starting ∷ [])) .waited ≡ true
   pub shows : within 0x181 0x57F (slotted (after node1 (ready ++ starting ∷ [])) .frame .identifier) ≡ true
 
@@ -77,8 +77,8 @@ emptied = request (bytes 0x2F 0x03 0x10 0x00 0 0 0 0) ∷ []
 
 pub record Losing : Type 0 where
   pub five-lost : losses node1 Missing 0 five ≡ 5
-  pub four-read : readsOf (after node1 five) 0x1003 0 ≡ some (Number 4)
+  pub four-read : readsIn (after node1 five) 0x1003 0 ≡ some (Number 4)
   pub empties : Writes (after node1 five) (dataFrame 0x601 8 (bytes 0x2F 0x03 0x10 0x00 0 0 0 0)) 0x1003_00 0
   pub one-lost : losses node1 Missing 0 (five ++ emptied ++ loss) ≡ 1
-  pub one-read : readsOf (after node1 (five ++ emptied ++ loss)) 0x1003 0 ≡ some (Number 1)
-  pub second-blank : readsOf (after node1 (five ++ emptied ++ loss)) 0x1003 2 ≡ some Blank
+  pub one-read : readsIn (after node1 (five ++ emptied ++ loss)) 0x1003 0 ≡ some (Number 1)
+  pub second-blank : readsIn (after node1 (five ++ emptied ++ loss)) 0x1003 2 ≡ some Blank
