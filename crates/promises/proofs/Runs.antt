@@ -1,10 +1,15 @@
 -- The runs of specs/Runs.antt, by computation.
-use mathlib.Core.Path.{refl}
+use mathlib.Core.Path.{_≡_, refl, sym}
+use mathlib.Core.Bool.{true}
+use Rattle.cases.proofs.Cases.{true-false}
 use Rattle.entries.specs.Table.{entries, table, lookup}
 use Rattle.dictionary.specs.Reads.{shownAt}
 use Rattle.dictionary.specs.Writes.{written}
 use Rattle.sdo.specs.Service.{due}
+use Rattle.parts.specs.declared.Head.{Head}
 use Rattle.promises.specs.Acts.{settledTo, act}
+use Rattle.promises.specs.Calls.{Call, slot, isSlot}
+use Rattle.promises.specs.Readings.{Moves, samples, writes, resets}
 use Rattle.promises.specs.Runs.{Serving, Positioning, Losing}
 
 pub serving : Serving
@@ -21,6 +26,11 @@ serving =
       withdrawn = refl;
     }
 
+no-slot-moves : (h : Head) (c : Call) → isSlot c ≡ true → Moves h c → ⊥
+no-slot-moves h _ e (samples s b) = true-false (sym e)
+no-slot-moves h _ e (writes f k v w r) = true-false (sym e)
+no-slot-moves h _ e (resets f x) = true-false (sym e)
+
 pub positioning : Positioning
 unfolding entries table lookup shownAt written due act settledTo
 positioning =
@@ -31,6 +41,7 @@ positioning =
             requests = record { hears = record { unrefused = refl; heard = refl }; identifier = refl; length = refl; live = refl; free = refl };
             accepted = refl;
           };
+      unmoved = (no-slot-moves _ slot refl, tt);
       reads-preset = refl;
       waits = refl;
       shows = refl;

@@ -12,9 +12,9 @@ use Rattle.parts.specs.declared.Sensor.the-variants.{Missing, Raw}
 use Rattle.promises.specs.Calls.{Call, receive, sample, slot, slotted}
 use Rattle.promises.specs.Meant.{Requests, Writes}
 use Rattle.promises.specs.Histories.{after}
-use Rattle.promises.specs.Worked.{node1, request, answer, sends, at, preset}
+use Rattle.promises.specs.Worked.{node1, request, answer, sends, at}
 use Rattle.promises.specs.Service.{sendsReply, owed}
-use Rattle.promises.specs.Readings.{readsIn}
+use Rattle.promises.specs.Readings.{readsIn, Unmoved}
 use Rattle.promises.specs.ErrorList.{losses}
 
 -- a data frame
@@ -57,10 +57,15 @@ pub record Serving : Type 0 where
 abbrev pub ready : List Call
 ready = slot ∷ slot ∷ at 100
 
+-- 6003h = 40
+abbrev pub to40 : List ℕ
+to40 = bytes 0x23 0x03 0x60 0x00 0x28 0 0 0
+
 pub record Positioning : Type 0 where
   pub blank-at-first : readsIn node1 0x6004 0 ≡ some Blank
-  pub presets : Writes (after node1 ready) (dataFrame 0x601 8 (bytes 0x23 0x03 0x60 0x00 0x28 0 0 0)) 0x6003_00 40
-  pub reads-preset : readsIn (after node1 (ready ++ preset)) 0x6004 0 ≡ some (Number 40)
+  pub presets : Writes (after node1 ready) (dataFrame 0x601 8 to40) 0x6003_00 40
+  pub unmoved : Unmoved (after node1 (ready ++ request to40 ∷ [])) (slot ∷ [])
+  pub reads-preset : readsIn (after node1 (ready ++ request to40 ∷ slot ∷ [])) 0x6004 0 ≡ some (Number 40)
   pub waits : slotted (after node1 (ready ++ starting ∷ [])) .waited ≡ true
   pub shows : within 0x181 0x57F (slotted (after node1 (ready ++ starting ∷ [])) .frame .identifier) ≡ true
 
