@@ -40,7 +40,7 @@ module _ (d : Device) (o : Bool) (p v : ℕ) where
   unfolding table entries
   only-0 = refl
 
-  emptied : Takes d p v → isCount (rowAt p) ≡ true → v ≡ 0
+  pub emptied : Takes d p v → isCount (rowAt p) ≡ true → v ≡ 0
   emptied t e =
       let accepted = rw e at (at-place empties (λ r. eqb v 0) table noRow p refl only-0) in
       eqb-true v 0 (sym accepted ∙ taken d (rowAt p) v (t .unrefused) .0)

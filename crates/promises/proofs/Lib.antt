@@ -30,6 +30,14 @@ pub mod Inhibit
 pub mod Relief
 pub mod Hidden
 pub mod Gap
+pub mod Identifiers
+pub mod Altered
+pub mod Service
+pub mod Replies
+pub mod Readings
+pub mod Positions
+pub mod ErrorList
+pub mod Runs
 pub mod Worked
 pub mod FullLine
 pub mod Busy

@@ -15,3 +15,7 @@ pub mod Gap
 pub mod Worked
 pub mod FullLine
 pub mod Busy
+pub mod Service
+pub mod Readings
+pub mod ErrorList
+pub mod Runs
