@@ -14,4 +14,8 @@ pub mod Meant
 pub mod Causes
 pub mod Laws
 pub mod Histories
+pub mod Anew
+pub mod Restarts
+pub mod ReplyJoins
+pub mod Effects
 pub mod Worked

@@ -26,7 +26,7 @@ no-may c sdoReply i = not-live c i
 no-may c heartbeat i = rw i
 no-may c (tpdo w) i = rw (not-operational c i)
 
-number-is : (x : ℕ) → 0 < x → x ≤ places → number (kindOf x) ≡ x
+pub number-is : (x : ℕ) → 0 < x → x ≤ places → number (kindOf x) ≡ x
 number-is zero p q = absurd (omega arith)
 number-is (suc zero) p q = refl
 number-is (suc (suc zero)) p q = refl

@@ -37,7 +37,7 @@ among-sent true (x ∷ xs) = skip (among-all xs)
 among-sent false ws = among-all ws
 
 -- a kind that waits keeps its place, another joins at the end
-join-is : (ws : List ℕ) (k : ℕ) → join ws k ≡ cond (has k ws) ws (ws ++ k ∷ [])
+pub join-is : (ws : List ℕ) (k : ℕ) → join ws k ≡ cond (has k ws) ws (ws ++ k ∷ [])
 join-is [] k = refl
 join-is (x ∷ xs) k =
     test (eqb x k)
