@@ -18,4 +18,5 @@ pub mod Anew
 pub mod Restarts
 pub mod ReplyJoins
 pub mod Effects
+pub mod EffectsMet
 pub mod Worked

@@ -1,27 +1,30 @@
 -- What a service request does: an accepted write has exactly the effects named for it, an aborted write alters no entry.
 -- The effects are lists and tests by the key of the entry that is written, to be laid beside 01's chapters "Entries", "Position" and "The waiting line".
-use Prim.Native.Nat.{ℕ, _+_}
+use Prim.Native.Nat.{ℕ, _+_, _/_, _%_}
 use lib.Dec.{eqb}
 use lib.IntN.{pos, _-ℤ_}
 use mathlib.Core.Path.{_≡_}
 use mathlib.Core.Bool.{Bool, true, false, not, _&&_, _||_, cond}
 use mathlib.Core.List.{List, [], _∷_, _++_, map}
 use mathlib.Core.Option.{Option, none, some}
+use Rattle.can.specs.Number.{lowFirst}
 use Rattle.can.specs.Signed.{twos}
 use Rattle.can.specs.declared.Received.{Received}
-use Rattle.position.specs.declared.Profile.{Profile}
-use Rattle.position.specs.Position.{bit, scalingBit, directed, position}
+use Rattle.position.specs.Position.{directed, position}
 use Rattle.entries.specs.declared.Device.{Device}
 use Rattle.entries.specs.declared.Settings.{Settings}
 use Rattle.entries.specs.Settings.{factory}
-use Rattle.entries.specs.Table.{missing, keyOf}
+use Rattle.entries.specs.Table.{missing, table, keyOf}
 use Rattle.dictionary.specs.declared.read.Shown.{Shown}
 use Rattle.dictionary.specs.declared.read.Shown.the-variants.{Blank, Number}
 use Rattle.dictionary.specs.Accepted.{on}
 use Rattle.dictionary.specs.Reads.{reads}
+use Rattle.dictionary.specs.Writes.{rangeFor, rescaledTo}
+use Rattle.dictionary.specs.Worked.{takeAll, writes as allWrites}
 use Rattle.sdo.specs.Request.{indexOf, subOf}
 use Rattle.sdo.specs.Service.{value, confirmation, abort, answer}
 use Rattle.sdo.specs.Service as service
+use Rattle.sdo.specs.Worked.{bytes}
 use Rattle.waiting.specs.Line as line
 use Rattle.waiting.specs.Line.{has}
 use Rattle.waiting.specs.Places.{waiting}
@@ -29,28 +32,25 @@ use Rattle.waiting.specs.Calls.{withdraws}
 use Rattle.parts.specs.declared.Timers.{Timers}
 use Rattle.parts.specs.declared.Core.{Core}
 use Rattle.parts.specs.declared.Head.{Head}
+use Rattle.parts.specs.declared.Sensor.the-variants.{Raw}
 use Rattle.promises.specs.States.{operational, isIn, communication, good, Which, one, two, pdo, clock}
 use Rattle.promises.specs.WaitingLine.{Kind, emergency, sdoReply, heartbeat, tpdo, those, mayAlert}
-use Rattle.promises.specs.Calls.{received}
+use Rattle.promises.specs.Calls.{Call, sample, slot, received}
 use Rattle.promises.specs.Valid.{waits}
 use Rattle.promises.specs.Meant.{Requests, dueTo}
-use Rattle.promises.specs.Histories.{Reachable}
+use Rattle.promises.specs.Histories.{after, Reachable}
+use Rattle.promises.specs.Worked.{node1, writes}
 
 -- what a list has for the key k; a where it has nothing
 abbrev pub given : {A : Type 0} → List (ℕ × A) → ℕ → A → A
 given [] k a = a
 given (e ∷ es) k a = cond (eqb k (e .0)) (e .1) (given es k a)
 
--- The entries that read anew, and what: 6003h and the offset are 0, and so the position is that of these numbers; it is blank while missing.
-abbrev pub unset : Device → Profile → List (ℕ × Shown)
-unset d p = (0x6003_00, Number 0) ∷ (0x6509_00, Number 0) ∷ (0x6004_00, cond (missing d) Blank (Number (position p (d .reading .raw)))) ∷ []
-
-abbrev pub profile : ℕ → ℕ → ℕ → Profile
-profile operating range step = record { operating = operating; range = range; preset = 0; step = step; offset = pos 0 }
-
--- of 6000h also T, to 1,000,000 with scaling and 1,048,576 without
-abbrev pub rangeBy : ℕ → ℕ
-rangeBy operating = cond (bit scalingBit operating) 1000000 1048576
+-- sets 6003h and the offset to 0: the position is then that of these numbers, blank while missing
+abbrev pub rescaled : Device → ℕ → ℕ → ℕ → List (ℕ × Shown)
+rescaled d operating range step =
+    let position′ = position (rescaledTo operating range step) (d .reading .raw) in
+    (0x6003_00, Number 0) ∷ (0x6509_00, Number 0) ∷ (0x6004_00, cond (missing d) Blank (Number position′)) ∷ []
 
 -- For a write of v: by the entry written the entries that read anew, and what, of a device that is Operational or not.
 abbrev pub named : Device → Bool → ℕ → List (ℕ × List (ℕ × Shown))
@@ -64,11 +64,12 @@ named d o v =
     -- 6200-0: 1800-5 under a second index
     (0x1800_05, (0x1800_05, Number v) ∷ (0x6200_00, Number v) ∷ []) ∷
     (0x6200_00, (0x1800_05, Number v) ∷ (0x6200_00, Number v) ∷ []) ∷
-    -- Any accepted write of 6000h, 6002h or 6005h, also of an equal value, sets 6003h and the offset to 0; of 6000h also T.
+    -- Any accepted write of 6000h, 6002h or 6005h, also of an equal value, sets 6003h and the offset to 0;
+    -- of 6000h also T, to 1,000,000 with scaling and 1,048,576 without.
     -- 6500-0: the value of entry 6000-0, plus bit 15 when Operational
-    (0x6000_00, (0x6000_00, Number v) ∷ (0x6500_00, Number (v + cond o 0x8000 0)) ∷ (0x6002_00, Number (rangeBy v)) ∷ unset d (profile v (rangeBy v) (p .step))) ∷
-    (0x6002_00, (0x6002_00, Number v) ∷ unset d (profile (p .operating) v (p .step))) ∷
-    (0x6005_01, (0x6005_01, Number v) ∷ unset d (profile (p .operating) (p .range) v)) ∷
+    (0x6000_00, (0x6000_00, Number v) ∷ (0x6500_00, Number (v + cond o 0x8000 0)) ∷ (0x6002_00, Number (rangeFor v)) ∷ rescaled d v (rangeFor v) (p .step)) ∷
+    (0x6002_00, (0x6002_00, Number v) ∷ rescaled d (p .operating) v (p .step)) ∷
+    (0x6005_01, (0x6005_01, Number v) ∷ rescaled d (p .operating) (p .range) v) ∷
     -- Accepted 6003h = p: offset becomes p − d at the present sample, so the position reads p.
     (0x6003_00, (0x6003_00, Number v) ∷ (0x6509_00, Number (twos (pos v -ℤ pos (directed p (d .reading .raw))))) ∷ (0x6004_00, Number v) ∷ []) ∷
     []
@@ -185,3 +186,34 @@ pub record Served (h : Head) (f : Received) : Type 0 where
 
 abbrev pub ServedRightly : Type 0
 ServedRightly = (h : Head) → Reachable h → (f : Received) → Requests h f → Served h f
+
+-- Node 1 by calls from power-up: Pre-operational at the raw position 100, both PDOs switched off, scaling on.
+abbrev pub ready : List Call
+ready =
+    slot ∷ sample (Raw 100) ∷
+    writes (bytes 0x23 0x00 0x18 0x01 0x81 0x01 0x00 0x80) ++
+    writes (bytes 0x23 0x01 0x18 0x01 0x81 0x02 0x00 0x80) ++
+    writes (bytes 0x2B 0x00 0x60 0x00 0x04 0x00 0 0)
+
+-- eight bytes as a frame to node 1
+abbrev pub toNode1 : List ℕ → Received
+toNode1 b = record { identifier = 0x601; extended = false; remote = false; length = 8; bytes = b }
+
+-- a write of v to the entry of key k, of the entry's length
+abbrev pub writing : ℕ × ℕ → Received
+writing w = toNode1 (0x22 ∷ lowFirst 2 (w .0 / 256) ++ w .0 % 256 ∷ lowFirst 4 (w .1))
+
+pub record Met (h : Head) : Type 0 where
+  pub reachable : Reachable h
+  pub requests : (b : List ℕ) → Requests h (toNode1 b)
+  -- the writes are those of the table's rw entries, in its order,
+  pub each : takeAll (h .core .device) table allWrites ≡ true
+  -- and each is accepted
+  pub accepted : map (λ w. dueTo h (writing w)) allWrites ≡ map (λ w. confirmation (w .0) (w .1)) allWrites
+  pub aborted : dueTo h (toNode1 (bytes 0x2F 0x17 0x10 0x00 0x88 0x13 0 0)) ≡ abort 0x06070013
+  pub read : dueTo h (toNode1 (bytes 0x40 0x01 0x65 0x00 0 0 0 0)) ≡ value 4 5000
+  pub client-aborts : dueTo h (toNode1 (bytes 0x80 0x01 0x65 0x00 0 0 0 0)) ≡ service.none
+
+-- `ServedRightly` speaks of every rw entry, of an abort, of a value and of none.
+abbrev pub MetWhenReady : Type 0
+MetWhenReady = Met (after node1 ready)

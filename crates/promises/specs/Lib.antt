@@ -8,5 +8,5 @@ pub mod Meant
 pub mod Promised
 pub mod Histories
 pub mod Laws
-pub mod Effects
 pub mod Worked
+pub mod Effects
