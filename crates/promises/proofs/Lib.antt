@@ -19,4 +19,6 @@ pub mod Restarts
 pub mod ReplyJoins
 pub mod Effects
 pub mod EffectsMet
+pub mod Saved
+pub mod Resets
 pub mod Worked

@@ -31,7 +31,7 @@ use Rattle.promises.proofs.Laws.{laws as head-laws}
 use Rattle.promises.proofs.Restarts.{own-identifier}
 use Rattle.promises.proofs.Slots.{number-is}
 
-none-withdrawn : (ks : List ℕ) → withdraws [] ks ≡ []
+pub none-withdrawn : (ks : List ℕ) → withdraws [] ks ≡ []
 none-withdrawn [] = refl
 none-withdrawn (k ∷ ks) = none-withdrawn ks
 

@@ -10,3 +10,4 @@ pub mod Histories
 pub mod Laws
 pub mod Worked
 pub mod Effects
+pub mod Resets
