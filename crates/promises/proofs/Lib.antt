@@ -21,4 +21,5 @@ pub mod Effects
 pub mod EffectsMet
 pub mod Saved
 pub mod Resets
+pub mod ResetsMet
 pub mod Worked

@@ -3,14 +3,18 @@ use Prim.Native.Nat.{ℕ}
 use lib.Dec.{eqb, ltb}
 use mathlib.Core.Path.{_≡_}
 use mathlib.Core.Bool.{Bool, true, false, not, _&&_, _||_, cond}
-use mathlib.Core.List.{List, [], _∷_}
+use mathlib.Core.List.{List, [], _∷_, _++_}
 use mathlib.Core.Logic.{_⊎_}
+use mathlib.Core.Option.{some}
 use Rattle.can.specs.declared.Received.{Received}
 use Rattle.entries.specs.declared.Device.{Device}
 use Rattle.entries.specs.declared.Settings.{Settings}
 use Rattle.entries.specs.Settings.{factory}
+use Rattle.dictionary.specs.declared.read.Shown.the-variants.{Number}
 use Rattle.dictionary.specs.Accepted.{on}
 use Rattle.dictionary.specs.Reads.{reads}
+use Rattle.dictionary.specs.Worked.{save, load}
+use Rattle.sdo.specs.Worked.{bytes}
 use Rattle.waiting.specs.Line as line
 use Rattle.waiting.specs.Places.{waiting}
 use Rattle.parts.specs.declared.Head.{Head}
@@ -20,7 +24,8 @@ use Rattle.promises.specs.Calls.{Call, receive, tick, sample, slot, step
 use Rattle.promises.specs.Meant.{Commands, Writes}
 use Rattle.promises.specs.Histories.{after, Reachable}
 use Rattle.promises.specs.Laws.{Restarted}
-use Rattle.promises.specs.Effects.{readsIn}
+use Rattle.promises.specs.Worked.{node1, missing, writes}
+use Rattle.promises.specs.Effects.{readsIn, writing}
 
 -- below 2000h; 6200-0 is 1800-5 under a second index
 abbrev pub below2000 : ℕ → Bool
@@ -82,3 +87,30 @@ pub record Resets : Type 0 where
   -- "load" makes the saved set factory; running settings change at the next reset.
   pub loads : Restores 0x1011_01 (λ h. factory (node (h .core)))
   pub runs-on : (h : Head) → Reachable h → (f : Received) (v : ℕ) → Writes h f 0x1011_01 v → (i j : ℕ) → readsIn (received h f .head) i j ≡ readsIn h i j
+
+-- an NMT command to all nodes
+abbrev pub command : ℕ → Received
+command b = record { identifier = 0x000; extended = false; remote = false; length = 2; bytes = bytes b 0 0 0 0 0 0 0 }
+
+-- Node 1 by calls from power-up: Pre-operational, 1017h = 1,000.
+abbrev pub beating : List Call
+beating = missing ++ writes (bytes 0x2B 0x17 0x10 0x00 0xE8 0x03 0 0)
+
+-- the reply is sent, and then 1017h = 500
+abbrev pub between : List Call
+between = slot ∷ writes (bytes 0x2B 0x17 0x10 0x00 0xF4 0x01 0 0)
+
+-- The head h can meet what `Restores` asks: f is an accepted write of v to the entry of key k, and after 81h 1017h reads n.
+pub record Met (h : Head) (f : Received) (k v n : ℕ) : Type 0 where
+  pub reachable : Reachable h
+  pub written : Writes h f k v
+  pub none-saves : NoneSaves (received h f .head) between
+  pub commands : Commands (after (received h f .head) between) (command 0x81) (toReset ofNode)
+  pub reads-again : readsIn (received (after (received h f .head) between) (command 0x81) .head) 0x1017 0 ≡ some (Number n)
+
+-- "save": 1017h is 1,000 again; "load": it is 0, the factory's
+abbrev pub MetBySave : Type 0
+MetBySave = Met (after node1 beating) (writing (0x1010_01, save)) 0x1010_01 save 1000
+
+abbrev pub MetByLoad : Type 0
+MetByLoad = Met (after node1 beating) (writing (0x1011_01, load)) 0x1011_01 load 0
