@@ -3,10 +3,12 @@ use Prim.Native.Nat.{ℕ}
 use native.Mathlib.Omega.{arith}
 use lib.IntN.{pos}
 use mathlib.Core.Path.{_≡_, refl, sym, ap, ap₂, subst, _∙_}
-use mathlib.Core.Bool.{true, false}
+use mathlib.Core.Bool.{Bool, true, false}
 use mathlib.Core.List.{List, [], _∷_, _++_, map}
 use Rattle.cases.proofs.Cases.{Each, _▸_, end}
 use Rattle.entries.specs.declared.Identity.{Identity}
+use Rattle.entries.specs.declared.Reading.{Reading}
+use Rattle.entries.specs.declared.Settings.{Settings}
 use Rattle.entries.specs.declared.table.Found.the-variants.{At}
 use Rattle.entries.specs.Settings.{pdo, factory}
 use Rattle.entries.specs.Table.{entries, table, lookup}
@@ -24,37 +26,44 @@ use Rattle.parts.specs.declared.Sensor.the-variants.{Raw}
 use Rattle.promises.specs.States.{preOperational, state, atRest}
 use Rattle.promises.specs.Acts.{settledTo, act}
 use Rattle.promises.specs.Calls.{Call, sample, slot}
-use Rattle.promises.specs.Meant.{dueTo}
-use Rattle.promises.specs.Histories.{after}
+use Rattle.promises.specs.Meant.{Requests, dueTo}
+use Rattle.promises.specs.Histories.{after, PowerUp}
 use Rattle.promises.specs.Worked.{node1, writes}
-use Rattle.promises.specs.Effects.{ready, writing, Met, MetWhenReady}
+use Rattle.promises.specs.Effects.{ready, toNode1, writing, Met, MetWhenReady}
 
 abbrev its-identity : Identity
 its-identity = record { vendor = 1; product = 2; revision = 3; serial = 4 }
 
--- at the raw position 100, with these identifiers of the PDOs, 6000h, 6002h and reply; nothing waits
-abbrev at : ℕ → ℕ → ℕ → ℕ → List ℕ → Head
-at id1 id2 operating range reply =
+abbrev pub power-up : PowerUp
+power-up = record { number = 1; identity = its-identity; fits = record { vendor = omega arith; product = omega arith; revision = omega arith; serial = omega arith } }
+
+-- Node 1, Pre-operational, with that reading, that announced, these settings and that last reply; nothing waits.
+abbrev pub standing : Reading → Bool → Settings → List ℕ → Head
+standing r told s reply =
     record {
       core = record {
-        device = record {
-          node = 1;
-          identity = its-identity;
-          reading = record { good = true; raw = 100 };
-          errors = 0;
-          settings = record {
-            communication = record { emergency = 0x81; inhibit = 0; heartbeat = 0; pdo1 = pdo id1 254 100; pdo2 = pdo id2 1 0 };
-            profile = record { operating = operating; range = range; preset = 0; step = 5000; offset = pos 0 };
-          };
-          saved = factory 1;
-        };
+        device = record { node = 1; identity = its-identity; reading = r; errors = 0; settings = s; saved = factory 1 };
         nmt = state preOperational;
-        announced = true;
+        announced = told;
         timers = atRest;
         reply = reply;
       };
       line = pad places [];
     }
+
+pub asked : (r : Reading) (told : Bool) (s : Settings) (reply b : List ℕ) → Requests (standing r told s reply) (toNode1 b)
+asked r told s reply b = record { hears = record { unrefused = refl; heard = refl }; identifier = refl; length = refl; live = refl; free = refl }
+
+-- at the raw position 100, with these identifiers of the PDOs, 6000h, 6002h and reply
+abbrev settings : ℕ → ℕ → ℕ → ℕ → Settings
+settings id1 id2 operating range =
+    record {
+      communication = record { emergency = 0x81; inhibit = 0; heartbeat = 0; pdo1 = pdo id1 254 100; pdo2 = pdo id2 1 0 };
+      profile = record { operating = operating; range = range; preset = 0; step = 5000; offset = pos 0 };
+    }
+
+abbrev at : ℕ → ℕ → ℕ → ℕ → List ℕ → Head
+at id1 id2 operating range reply = standing (record { good = true; raw = 100 }) true (settings id1 id2 operating range) reply
 
 abbrev off1 : List Call
 off1 = writes (bytes 0x23 0x00 0x18 0x01 0x81 0x01 0x00 0x80)
@@ -137,12 +146,8 @@ unfolding entries table lookup refusal shownAt due
 met =
     subst Met (sym ready-is)
     (record {
-      reachable = record {
-        start = record { number = 1; identity = its-identity; fits = record { vendor = omega arith; product = omega arith; revision = omega arith; serial = omega arith } };
-        calls = ready;
-        so = sym ready-is;
-      };
-      requests = λ b. record { hears = record { unrefused = refl; heard = refl }; identifier = refl; length = refl; live = refl; free = refl };
+      reachable = record { start = power-up; calls = ready; so = sym ready-is };
+      requests = asked _ _ _ _;
       each = refl;
       accepted = in-turn _ _ each-written;
       aborted = refl;

@@ -1,6 +1,5 @@
 -- A head by calls from power-up at which "save" and "load" are followed by other calls and a reset, by computation.
 use Prim.Native.Nat.{ℕ}
-use native.Mathlib.Omega.{arith}
 use mathlib.Core.Path.{_≡_, refl, sym, ap, subst, _∙_}
 use mathlib.Core.Bool.{false}
 use mathlib.Core.List.{List, []}
@@ -9,7 +8,7 @@ use mathlib.Core.Option.{some}
 use lib.Dec.{eqb}
 use borrow.Author.Tests.{eqb-false}
 use Rattle.can.specs.declared.Received.{Received}
-use Rattle.entries.specs.declared.Identity.{Identity}
+use Rattle.entries.specs.declared.Settings.{Settings}
 use Rattle.entries.specs.Settings.{pdo, factory}
 use Rattle.entries.specs.Table.{entries, table, lookup}
 use Rattle.dictionary.specs.declared.read.Shown.the-variants.{Number}
@@ -18,10 +17,9 @@ use Rattle.dictionary.specs.Writes.{written}
 use Rattle.dictionary.specs.Worked.{save, load}
 use Rattle.sdo.specs.Service.{confirmation, due}
 use Rattle.sdo.specs.Worked.{bytes}
-use Rattle.waiting.specs.Line.{places}
 use Rattle.waiting.specs.Places.{pad}
 use Rattle.parts.specs.declared.Head.{Head}
-use Rattle.promises.specs.States.{preOperational, state, atRest, ofNode, toReset}
+use Rattle.promises.specs.States.{missingReading, ofNode, toReset}
 use Rattle.promises.specs.Acts.{settledTo, act}
 use Rattle.promises.specs.Calls.{receive, received}
 use Rattle.promises.specs.Meant.{Commands, dueTo}
@@ -29,33 +27,18 @@ use Rattle.promises.specs.Histories.{after}
 use Rattle.promises.specs.Worked.{node1, missing, writes}
 use Rattle.promises.specs.Effects.{readsIn, toNode1, writing}
 use Rattle.promises.specs.Resets.{Saves, NoneSaves, command, beating, between, Met, MetBySave, MetByLoad}
+use Rattle.promises.proofs.EffectsMet.{power-up, standing, asked}
 
-abbrev its-identity : Identity
-its-identity = record { vendor = 1; product = 2; revision = 3; serial = 4 }
-
--- missing and told, with this period and reply; nothing waits
-abbrev at : ℕ → List ℕ → Head
-at period reply =
+-- missing and told, with this 1017h and reply
+abbrev settings : ℕ → Settings
+settings period =
     record {
-      core = record {
-        device = record {
-          node = 1;
-          identity = its-identity;
-          reading = record { good = false; raw = 0 };
-          errors = 0;
-          settings = record {
-            communication = record { emergency = 0x81; inhibit = 0; heartbeat = period; pdo1 = pdo 0x181 254 100; pdo2 = pdo 0x281 1 0 };
-            profile = factory 1 .profile;
-          };
-          saved = factory 1;
-        };
-        nmt = state preOperational;
-        announced = false;
-        timers = atRest;
-        reply = reply;
-      };
-      line = pad places [];
+      communication = record { emergency = 0x81; inhibit = 0; heartbeat = period; pdo1 = pdo 0x181 254 100; pdo2 = pdo 0x281 1 0 };
+      profile = factory 1 .profile;
     }
+
+abbrev at : ℕ → List ℕ → Head
+at period reply = standing missingReading false (settings period) reply
 
 abbrev settled : Head
 settled = at 1000 (bytes 0x60 0x17 0x10 0x00 0 0 0 0)
@@ -87,15 +70,8 @@ module _ (b : List ℕ) (k v n : ℕ) where
   met accepted none-saves commands reads-again =
       subst (λ h. Met h f k v n) (sym beating-is)
       (record {
-        reachable = record {
-          start = record { number = 1; identity = its-identity; fits = record { vendor = omega arith; product = omega arith; revision = omega arith; serial = omega arith } };
-          calls = beating;
-          so = sym beating-is;
-        };
-        written = record {
-          requests = record { hears = record { unrefused = refl; heard = refl }; identifier = refl; length = refl; live = refl; free = refl };
-          accepted = accepted;
-        };
+        reachable = record { start = power-up; calls = beating; so = sym beating-is };
+        written = record { requests = asked _ _ _ _ b; accepted = accepted };
         none-saves = none-saves;
         commands = commands;
         reads-again = reads-again;
