@@ -19,7 +19,7 @@ pub mod Restarts
 pub mod ReplyJoins
 pub mod Effects
 pub mod EffectsMet
-pub mod Saved
+pub mod Kept
 pub mod Resets
 pub mod ResetsMet
 pub mod Worked

@@ -26,7 +26,7 @@ use Rattle.promises.specs.Meant.{Commands, dueTo}
 use Rattle.promises.specs.Histories.{after}
 use Rattle.promises.specs.Worked.{node1, missing, writes}
 use Rattle.promises.specs.Effects.{readsIn, toNode1, writing}
-use Rattle.promises.specs.Resets.{Saves, NoneSaves, command, beating, between, Met, MetBySave, MetByLoad}
+use Rattle.promises.specs.Resets.{Saves, None, command, beating, between, Met, MetBySave, MetByLoad}
 use Rattle.promises.proofs.EffectsMet.{power-up, standing, asked}
 
 -- missing and told, with this 1017h and reply
@@ -63,7 +63,7 @@ module _ (b : List ℕ) (k v n : ℕ) where
   abbrev f : Received
   f = toNode1 b
 
-  met : dueTo settled f ≡ confirmation k v → NoneSaves (received settled f .head) between
+  met : dueTo settled f ≡ confirmation k v → None Saves (received settled f .head) between
       → Commands (after (received settled f .head) between) (command 0x81) (toReset ofNode)
       → readsIn (received (after (received settled f .head) between) (command 0x81) .head) 0x1017 0 ≡ some (Number n)
       → Met (after node1 beating) f k v n

@@ -65,23 +65,32 @@ Saves h tick = ⊥
 Saves h (sample s) = ⊥
 Saves h slot = ⊥
 
--- None of the calls is.
-abbrev pub NoneSaves : Head → List Call → Type 0
-NoneSaves h [] = Unit {0}
-NoneSaves h (c ∷ cs) = (Saves h c → ⊥) × NoneSaves (step h c) cs
+-- A call is an accepted write or a reset.
+abbrev pub Alters : Head → Call → Type 0
+Alters h (receive f) = ((k : ℕ) × (v : ℕ) × Writes h f k v) ⊎ ((r : Reset) × Commands h f (toReset r))
+Alters h tick = ⊥
+Alters h (sample s) = ⊥
+Alters h slot = ⊥
+
+-- None of the calls is such a one.
+abbrev pub None : (Head → Call → Type 0) → Head → List Call → Type 0
+None Such h [] = Unit {0}
+None Such h (c ∷ cs) = (Such h c → ⊥) × None Such (step h c) cs
 
 -- After an accepted write to the entry of key k, whatever comes then but a save or a load, a reset restores the settings s.
 abbrev pub Restores : ℕ → (Head → Settings) → Type 0
 Restores k s =
-    (h : Head) → Reachable h → (f : Received) (v : ℕ) → Writes h f k v → (cs : List Call) → NoneSaves (received h f .head) cs
+    (h : Head) → Reachable h → (f : Received) (v : ℕ) → Writes h f k v → (cs : List Call) → None Saves (received h f .head) cs
     → let later = after (received h f .head) cs in (g : Received) (r : Reset) → Commands later g (toReset r)
     → received later g .head .core .device .settings ≡ restored r (later .core .device .settings) (s h)
 
 pub record Resets : Type 0 where
   pub resets : (h : Head) → Reachable h → (f : Received) (r : Reset) → Commands h f (toReset r) → HasReset r h (received h f .head)
   pub boots : (h : Head) → Reachable h → isInitialising (h .core) ≡ true → HasBooted h (slotted h .head)
-  -- no call but an accepted write of 1010-1 or 1011-1 alters the saved set
-  pub saved-stays : (h : Head) → Reachable h → (cs : List Call) → NoneSaves h cs → after h cs .core .device .saved ≡ h .core .device .saved
+  -- no call but an accepted write or a reset alters the settings,
+  pub settings-stay : (h : Head) → Reachable h → (cs : List Call) → None Alters h cs → after h cs .core .device .settings ≡ h .core .device .settings
+  -- and no call but an accepted write of 1010-1 or 1011-1 the saved set
+  pub saved-stays : (h : Head) → Reachable h → (cs : List Call) → None Saves h cs → after h cs .core .device .saved ≡ h .core .device .saved
   -- "save" copies the settings (.. plus the offset) to the saved set.
   pub saves : Restores 0x1010_01 (λ h. h .core .device .settings)
   -- "load" makes the saved set factory; running settings change at the next reset.
@@ -104,7 +113,7 @@ between = slot ∷ writes (bytes 0x2B 0x17 0x10 0x00 0xF4 0x01 0 0)
 pub record Met (h : Head) (f : Received) (k v n : ℕ) : Type 0 where
   pub reachable : Reachable h
   pub written : Writes h f k v
-  pub none-saves : NoneSaves (received h f .head) between
+  pub none-saves : None Saves (received h f .head) between
   pub commands : Commands (after (received h f .head) between) (command 0x81) (toReset ofNode)
   pub reads-again : readsIn (received (after (received h f .head) between) (command 0x81) .head) 0x1017 0 ≡ some (Number n)
 
