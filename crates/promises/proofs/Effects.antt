@@ -59,7 +59,7 @@ module _ (h : Head) (f : Received) (valid : Valid h) (r : Requests h f) where
       subst (λ a. OnlyReplied f h (act false h a)) (sym m) after
 
   module _ (k v : ℕ) (e : dueTo h f ≡ confirmation k v) where
-    told : Confirmed d (f .bytes) (lookup (indexOf (f .bytes)) (subOf (f .bytes))) k v
+    pub told : Confirmed d (f .bytes) (lookup (indexOf (f .bytes)) (subOf (f .bytes))) k v
     told = subst (Told d o (f .bytes) (lookup (indexOf (f .bytes)) (subOf (f .bytes)))) e (sdo-laws d o (f .bytes) .told)
 
     reads-anew : (i j : ℕ) → reads (written d k v) o i j ≡ anew (effects d o k v) (keyOf i j) (reads d o i j)

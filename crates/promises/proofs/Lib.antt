@@ -20,6 +20,7 @@ pub mod ReplyJoins
 pub mod Effects
 pub mod EffectsMet
 pub mod Kept
+pub mod ReadsOn
 pub mod Resets
 pub mod ResetsMet
 pub mod Worked

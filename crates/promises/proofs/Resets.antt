@@ -37,6 +37,7 @@ use Rattle.promises.proofs.Histories.{valid-reachable}
 use Rattle.promises.proofs.ReplyJoins.{none-withdrawn}
 use Rattle.promises.proofs.Effects.{served-rightly}
 use Rattle.promises.proofs.Kept.{settings-after, saved-after}
+use Rattle.promises.proofs.ReadsOn.{reads-on}
 
 -- 82h: the whole table at once, by computation
 module _ (d : Device) where
@@ -127,6 +128,7 @@ save-and-reset =
       resets = λ h x f r. has-reset h f r (valid-reachable h x);
       boots = λ h x. has-booted h (valid-reachable h x);
       settings-stay = λ h x. settings-after h (valid-reachable h x);
+      reads-on = reads-on;
       saved-stays = λ h x. saved-after h (valid-reachable h x);
       saves = restores 0x1010_01 _ (λ h. refl);
       loads = restores 0x1011_01 _ (λ h. refl);

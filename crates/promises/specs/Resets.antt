@@ -14,6 +14,7 @@ use Rattle.dictionary.specs.declared.read.Shown.the-variants.{Number}
 use Rattle.dictionary.specs.Accepted.{on}
 use Rattle.dictionary.specs.Reads.{reads}
 use Rattle.dictionary.specs.Worked.{save, load}
+use Rattle.sdo.specs.Request.{indexOf, subOf}
 use Rattle.sdo.specs.Worked.{bytes}
 use Rattle.waiting.specs.Line as line
 use Rattle.waiting.specs.Places.{waiting}
@@ -25,7 +26,7 @@ use Rattle.promises.specs.Meant.{Commands, Writes}
 use Rattle.promises.specs.Histories.{after, Reachable}
 use Rattle.promises.specs.Laws.{Restarted}
 use Rattle.promises.specs.Worked.{node1, missing, writes}
-use Rattle.promises.specs.Effects.{readsIn, writing}
+use Rattle.promises.specs.Effects.{readsIn, readBack, writing}
 
 -- below 2000h; 6200-0 is 1800-5 under a second index
 abbrev pub below2000 : ℕ → Bool
@@ -89,6 +90,9 @@ pub record Resets : Type 0 where
   pub boots : (h : Head) → Reachable h → isInitialising (h .core) ≡ true → HasBooted h (slotted h .head)
   -- no call but an accepted write or a reset alters the settings,
   pub settings-stay : (h : Head) → Reachable h → (cs : List Call) → None Alters h cs → after h cs .core .device .settings ≡ h .core .device .settings
+  -- so that what was written is read, whatever comes then but these; 1003-0 counts on
+  pub reads-on : (h : Head) → Reachable h → (f : Received) (k v : ℕ) → Writes h f k v → (k ≡ 0x1003_00 → ⊥) → (cs : List Call) → None Alters (received h f .head) cs
+      → readsIn (after (received h f .head) cs) (indexOf (f .bytes)) (subOf (f .bytes)) ≡ some (Number (readBack k v))
   -- and no call but an accepted write of 1010-1 or 1011-1 the saved set
   pub saved-stays : (h : Head) → Reachable h → (cs : List Call) → None Saves h cs → after h cs .core .device .saved ≡ h .core .device .saved
   -- "save" copies the settings (.. plus the offset) to the saved set.
