@@ -29,7 +29,7 @@ use Rattle.promises.proofs.Causes.{requests}
 use Rattle.promises.proofs.Histories.{valid-reachable}
 use Rattle.promises.proofs.Anew.{reads-after, own-after, untouched}
 use Rattle.promises.proofs.Restarts.{counts}
-use Rattle.promises.proofs.ReplyJoins.{only-reply, write-line}
+use Rattle.promises.proofs.ReplyJoins.{only-reply, write-line, write-waits}
 
 module _ (h : Head) (f : Received) (valid : Valid h) (r : Requests h f) where
   abbrev d : Device
@@ -91,6 +91,7 @@ module _ (h : Head) (f : Received) (valid : Valid h) (r : Requests h f) where
           counts = counts (h .core) k v;
           reply = refl;
           line = write-line h valid (r .live) (r .free) (f .bytes) k v;
+          who-waits = write-waits h valid (r .live) (r .free) (f .bytes) k v;
         } in
         subst (λ a. Effects f k v h (act false h a)) (sym (means e)) after
 

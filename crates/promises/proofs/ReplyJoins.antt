@@ -1,7 +1,7 @@
 -- The line after a service request: those whose condition the write ended are gone, the others keep their order, and the reply stands at the end.
 use Prim.Native.Nat.{ℕ}
 use lib.Dec.{eqb}
-use mathlib.Core.Path.{_≡_, refl, sym, ap, _∙_}
+use mathlib.Core.Path.{_≡_, refl, sym, ap, ap₂, _∙_}
 use mathlib.Core.Bool.{Bool, true, false, not, _&&_, _||_, Bool·beq, cond, Bool·not-not, and-true, and-false, and-not-self, or-true}
 use mathlib.Core.List.{List, [], _∷_, _++_, append-assoc}
 use borrow.Author.Tests.{eqb-true, eqb-false, eq-eqb, ne-eqb}
@@ -152,3 +152,12 @@ module _ (h : Head) (valid : Valid h) (l : isLive (h .core) ≡ true) (free : wa
       served-line (confirmed f k v)
       (withdrawn-alike ws (goes c now) (those (takes k v)) (valid .line .kinds) alike)
       (ap (λ t. may now emergency && not t) still ∙ comes)
+
+  pub write-waits : (f : List ℕ) (k v : ℕ) (x : Kind) → waits (act false h (serve (confirmed f k v))) x ≡ ((not (takes k v x) && waits h x) || brings h k v x)
+  write-waits f k v x =
+      let out = those (takes k v) in
+      let into = those (brings h k v) in
+      ap (has (number x)) (write-line f k v)
+      ∙ has-append (number x) (withdraws ws out) into
+      ∙ ap (λ t. t || has (number x) into) (has-withdraws (number x) ws out)
+      ∙ ap₂ (λ t u. (not t && waits h x) || u) (has-those (takes k v) x) (has-those (brings h k v) x)

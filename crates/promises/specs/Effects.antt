@@ -172,7 +172,9 @@ pub record Effects (f : Received) (k v : ℕ) (h a : Head) : Type 0 where
   pub inhibit : a .core .timers .inhibit ≡ h .core .timers .inhibit
   pub counts : (c : Counted) → count (a .core .timers) c ≡ cond (restarts (h .core) k v c) 0 (count (h .core .timers) c)
   pub reply : a .core .reply ≡ answer (f .bytes) (confirmation k v) .bytes
+  -- those taken are gone, the others keep their order, and those brought stand at the end
   pub line : waiting (a .line) ≡ withdraws (waiting (h .line)) (those (takes k v)) ++ those (brings h k v)
+  pub who-waits : (x : Kind) → waits a x ≡ ((not (takes k v x) && waits h x) || brings h k v x)
 
 -- What a service request that is served does, by what is due to it.
 pub record Served (h : Head) (f : Received) : Type 0 where
