@@ -38,6 +38,15 @@ pub mod Readings
 pub mod Positions
 pub mod ErrorList
 pub mod Runs
+pub mod Anew
+pub mod Restarts
+pub mod ReplyJoins
+pub mod Effects
+pub mod EffectsMet
+pub mod Kept
+pub mod ReadsOn
+pub mod Resets
+pub mod ResetsMet
 pub mod Worked
 pub mod FullLine
 pub mod Busy

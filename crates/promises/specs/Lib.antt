@@ -19,3 +19,5 @@ pub mod Service
 pub mod Readings
 pub mod ErrorList
 pub mod Runs
+pub mod Effects
+pub mod Resets

@@ -1,0 +1,61 @@
+-- What was written is read until an accepted write or a reset: what an rw entry but 1003-0 reads is in the settings, by computation for the whole table.
+use Prim.Native.Nat.{ℕ}
+use lib.Dec.{eqb}
+use lib.ListN.{getD}
+use mathlib.Core.Path.{_≡_, refl, sym, ap, _∙_}
+use mathlib.Core.Bool.{Bool, true, not, _&&_, cond}
+use mathlib.Core.List.{List, map}
+use mathlib.Core.Option.{some}
+use borrow.Author.Tests.{ne-eqb}
+use Rattle.can.specs.declared.Received.{Received}
+use Rattle.entries.specs.declared.Device.{Device}
+use Rattle.entries.specs.Table.{Entry, entries, rowAt, isRw, key}
+use Rattle.dictionary.specs.declared.read.Shown.{Shown}
+use Rattle.dictionary.specs.declared.read.Shown.the-variants.{Blank, Number}
+use Rattle.dictionary.specs.Reads.{noEntry, shown, shownAt, readOf}
+use Rattle.dictionary.proofs.Columns.{at-place, row-of}
+use Rattle.sdo.specs.Request.{indexOf, subOf}
+use Rattle.parts.specs.declared.Head.{Head}
+use Rattle.promises.specs.States.{operational, isIn}
+use Rattle.promises.specs.Acts.{resetTo}
+use Rattle.promises.specs.Calls.{Call, receive, received}
+use Rattle.promises.specs.Meant.{Writes}
+use Rattle.promises.specs.Histories.{after, Reachable}
+use Rattle.promises.specs.Effects.{readsIn, readBack}
+use Rattle.promises.specs.Resets.{Alters, None}
+use Rattle.promises.proofs.Valid.{valid-step}
+use Rattle.promises.proofs.Histories.{valid-reachable}
+use Rattle.promises.proofs.Effects.{told, served-rightly}
+use Rattle.promises.proofs.Kept.{settings-after}
+
+module _ (d e : Device) (o u : Bool) where
+  abbrev isSetting : Entry → Bool
+  isSetting x = isRw (x .row) && not (eqb (key (x .row)) 0x1003_00)
+
+  abbrev of : Device → Bool → Entry → Shown
+  of d′ o′ x = cond (isSetting x) (shown x d′ o′) Blank
+
+  settings-shown : map (of d o) entries ≡ map (of (resetTo e (d .settings)) u) entries
+  unfolding entries
+  settings-shown = refl
+
+  shown-alike : (p : ℕ) → isRw (rowAt p) ≡ true → (key (rowAt p) ≡ 0x1003_00 → ⊥) → d .settings ≡ e .settings → shownAt d o p ≡ shownAt e u p
+  unfolding shownAt
+  shown-alike p w n q =
+      let x = getD entries p noEntry in
+      let is : isSetting x ≡ true = rw (rw (row-of p) at w, ne-eqb (key (x .row)) 0x1003_00 (rw (row-of p) at n)) in
+      rw is at (at-place (of d o) (of (resetTo e (d .settings)) u) entries noEntry p refl settings-shown) ∙ ap (λ s. shown x (resetTo e s) u) q
+
+pub reads-on : (h : Head) → Reachable h → (f : Received) (k v : ℕ) → Writes h f k v → (k ≡ 0x1003_00 → ⊥) → (cs : List Call) → None Alters (received h f .head) cs
+    → readsIn (after (received h f .head) cs) (indexOf (f .bytes)) (subOf (f .bytes)) ≡ some (Number (readBack k v))
+reads-on h x f k v w n cs a =
+    let valid = valid-reachable h x in
+    let now = received h f .head in
+    let later = after now cs in
+    let t = told h f valid (w .requests) k v (w .accepted) in
+    let own = served-rightly h x f (w .requests) .accepted k v (w .accepted) .own in
+    let alike = shown-alike (later .core .device) (now .core .device) (isIn operational (later .core)) (isIn operational (now .core)) in
+    ap (readOf (later .core .device) (isIn operational (later .core))) (t .found)
+    ∙ ap some (alike (t .place) (t .takes .writable) (λ q. n (t .key ∙ q)) (settings-after now (valid-step h (receive f) valid) cs a))
+    ∙ sym (ap (readOf (now .core .device) (isIn operational (now .core))) (t .found))
+    ∙ own

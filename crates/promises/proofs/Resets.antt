@@ -1,0 +1,136 @@
+-- `Resets` of specs/Resets.antt.
+use Prim.Native.Nat.{ℕ}
+use lib.ListN.{drop}
+use mathlib.Core.Path.{_≡_, refl, sym, ap, subst, _∙_}
+use mathlib.Core.Bool.{Bool, true, false, not, _&&_, cond, Bool·beq}
+use mathlib.Core.List.{[], _∷_, map}
+use mathlib.Core.Option.{some}
+use Rattle.can.specs.declared.Received.{Received}
+use Rattle.entries.specs.declared.Device.{Device}
+use Rattle.entries.specs.declared.Settings.{Settings}
+use Rattle.entries.specs.declared.table.Found.{Found}
+use Rattle.entries.specs.declared.table.Found.the-variants.{At, NoSubIndex, NoIndex}
+use Rattle.entries.specs.Table.{entries, rowAt, index, lookup}
+use Rattle.entries.proofs.Laws.{laws as entries-laws}
+use Rattle.dictionary.specs.Accepted.{on}
+use Rattle.dictionary.specs.Reads.{noEntry, shown, shownAt, readOf, reads}
+use Rattle.dictionary.proofs.Columns.{at-place, row-of}
+use Rattle.waiting.specs.Line as line
+use Rattle.waiting.specs.Line.{places}
+use Rattle.waiting.specs.Calls.{withdraws, joins}
+use Rattle.waiting.proofs.Laws.{laws}
+use Rattle.parts.specs.declared.Head.{Head}
+use Rattle.promises.specs.States.{operational, isIn, isInitialising, node, communication, good, Reset, ofNode, ofCommunication, restored, toReset}
+use Rattle.promises.specs.WaitingLine.{emergency, may}
+use Rattle.promises.specs.Acts.{boot, resetTo, booted, acted, emergencyOnly, goes, comes, settledTo, act}
+use Rattle.promises.specs.Calls.{receive, received, slotted}
+use Rattle.promises.specs.Valid.{Valid}
+use Rattle.promises.specs.Meant.{Commands}
+use Rattle.promises.specs.Histories.{after}
+use Rattle.promises.specs.Effects.{savedBy}
+use Rattle.promises.specs.Resets.{settingsFor, HasReset, HasBooted, Restores, Resets}
+use Rattle.promises.proofs.Valid.{valid-step}
+use Rattle.promises.proofs.Waits.{holds-act}
+use Rattle.promises.proofs.Slots.{none-waits, boots}
+use Rattle.promises.proofs.Meant.{core-step, commands, resets}
+use Rattle.promises.proofs.Histories.{valid-reachable}
+use Rattle.promises.proofs.ReplyJoins.{none-withdrawn}
+use Rattle.promises.proofs.Effects.{served-rightly}
+use Rattle.promises.proofs.Kept.{settings-after, saved-after}
+use Rattle.promises.proofs.ReadsOn.{reads-on}
+
+-- 82h: the whole table at once, by computation
+module _ (d : Device) where
+  abbrev now : Device
+  now = resetTo d (restored ofCommunication (d .settings) (d .saved))
+
+  abbrev due : ℕ → Device
+  due i = resetTo d (settingsFor ofCommunication d i)
+
+  columns : map (λ e. shown e now false) entries ≡ map (λ e. shown e (due (index (e .row))) false) entries
+  unfolding entries
+  columns = refl
+
+  shown-reset : (q : ℕ) → shownAt now false q ≡ shownAt (due (index (rowAt q))) false q
+  unfolding shownAt
+  shown-reset q =
+      at-place (λ e. shown e now false) (λ e. shown e (due (index (e .row))) false) entries noEntry q refl columns
+      ∙ ap (λ r. shownAt (due (index r)) false q) (sym (row-of q))
+
+  found-reset : (i j : ℕ) (x : Found) → lookup i j ≡ x → readOf now false x ≡ readOf (due i) false x
+  found-reset i j (At q) e = ap some (shown-reset q ∙ ap (λ n. shownAt (due n) false q) (entries-laws .finds i j .at q .0 e .0 .1))
+  found-reset i j NoSubIndex e = refl
+  found-reset i j NoIndex e = refl
+
+reads-reset : (r : Reset) (d : Device) (i j : ℕ) → reads (resetTo d (restored r (d .settings) (d .saved))) false i j ≡ reads (resetTo d (settingsFor r d i)) false i j
+reads-reset ofNode d i j = refl
+reads-reset ofCommunication d i j = found-reset d i j (lookup i j) refl
+
+has-reset : (h : Head) (f : Received) (r : Reset) → Valid h → Commands h f (toReset r) → HasReset r h (received h f .head)
+has-reset h f r v m =
+    let restarted = resets h f r m in
+    let empty = none-waits (received h f .head) (valid-step h (receive f) v) (restarted .initialising) in
+    let means = core-step h (receive f) ∙ ap (acted (h .core)) (commands h f m) in
+    record {
+      entries = λ i j. ap (λ c. reads (c .device) (isIn operational c) i j) means ∙ reads-reset r (h .core .device) i j;
+      restarted = restarted;
+      node = ap node means;
+      identity = ap (λ c. c .device .identity) means;
+      line = empty;
+    }
+
+-- The boot-up frame is sent: nothing waited, and the emergency joins where it may.
+joined : (m : Bool) (k : ℕ) → joins [] (cond m (k ∷ []) []) ≡ cond m (k ∷ []) []
+joined true k = refl
+joined false k = refl
+
+-- "good" counts as announced
+untold : (t g : Bool) → (t && true && not (Bool·beq g true)) ≡ (t && not g)
+untold true true = refl
+untold true false = refl
+untold false g = refl
+
+has-booted : (h : Head) → Valid h → isInitialising (h .core) ≡ true → HasBooted h (slotted h .head)
+unfolding act settledTo
+has-booted h v i =
+    let c = h .core in
+    let told = v .fresh i .0 in
+    let out = goes c (booted c) in
+    let into = comes emergencyOnly (booted c) in
+    let its-line =
+    laws places .all (holds-act true h boot v)
+    ∙ ap (λ ws. joins (withdraws (drop 1 ws) out) into) (none-waits h v i)
+    ∙ ap (λ ws. joins ws into) (none-withdrawn out)
+    ∙ joined (may (booted c) emergency) line.emergency
+    ∙ ap (λ t. cond (on (communication c .emergency) && true && not (Bool·beq (good c) t)) (line.emergency ∷ []) []) told
+    ∙ ap (λ t. cond t (line.emergency ∷ []) []) (untold (on (communication c .emergency)) (good c)) in
+    let after : HasBooted h (act true h boot) =
+    record {
+      nmt = refl;
+      device = refl;
+      announced = told;
+      timers = refl;
+      line = its-line;
+    } in
+    subst (λ a. HasBooted h (act true h a)) (sym (boots h i)) after
+
+restores : (k : ℕ) (s : Head → Settings) → ((h : Head) → savedBy (h .core .device) k ≡ s h) → Restores k s
+restores k s e h x f v w cs n g r m =
+    let now = received h f .head in
+    let valid = valid-step h (receive f) (valid-reachable h x) in
+    resets (after now cs) g r m .settings
+    ∙ ap (restored r (after now cs .core .device .settings))
+    (saved-after now valid cs n ∙ served-rightly h x f (w .requests) .accepted k v (w .accepted) .saved ∙ e h)
+
+pub save-and-reset : Resets
+save-and-reset =
+    record {
+      resets = λ h x f r. has-reset h f r (valid-reachable h x);
+      boots = λ h x. has-booted h (valid-reachable h x);
+      settings-stay = λ h x. settings-after h (valid-reachable h x);
+      reads-on = reads-on;
+      saved-stays = λ h x. saved-after h (valid-reachable h x);
+      saves = restores 0x1010_01 _ (λ h. refl);
+      loads = restores 0x1011_01 _ (λ h. refl);
+      runs-on = λ h x f v w i j. served-rightly h x f (w .requests) .accepted 0x1011_01 v (w .accepted) .others i j refl;
+    }
