@@ -9,20 +9,12 @@ use Rattle.sdo.specs.Service.{due}
 use Rattle.parts.specs.declared.Sensor.the-variants.{Missing}
 use Rattle.promises.specs.Acts.{settledTo, act}
 use Rattle.promises.specs.Calls.{sample, step}
-use Rattle.promises.specs.Histories.{after, PowerUp}
-use Rattle.promises.specs.Worked.{node1}
+use Rattle.promises.specs.Histories.{after}
+use Rattle.promises.specs.Node1.{node1}
 use Rattle.promises.specs.Gap.{Unrelieved}
 use Rattle.promises.specs.Busy.{busyLine, busyMaster, held, wait, Busy}
 use Rattle.promises.proofs.Gap.{gap}
-
--- `node1` of specs/Worked.antt
-powered-1 : PowerUp
-powered-1 =
-    record {
-      number = 1;
-      identity = record { vendor = 1; product = 2; revision = 3; serial = 4 };
-      fits = record { vendor = omega arith; product = omega arith; revision = omega arith; serial = omega arith };
-    }
+use Rattle.promises.proofs.Node1.{power-up}
 
 unrelieved : Unrelieved 1 (step (after node1 busyLine) (sample Missing)) busyMaster
 unfolding entries table lookup shownAt written due act settledTo
@@ -33,7 +25,7 @@ unfolding entries table lookup shownAt written due act settledTo
 unrelieved-still = record { missing = refl; alerting = refl; running = refl }
 
 pub busy-line : Busy
-unfolding entries table lookup shownAt written due act settledTo powered-1
+unfolding entries table lookup shownAt written due act settledTo
 busy-line =
     record {
       before = refl;
@@ -43,13 +35,13 @@ busy-line =
       unrelieved = unrelieved;
       five = refl;
       good = refl;
-      told = gap .missing-is-told powered-1 busyLine busyMaster refl refl unrelieved (omega arith);
-      hidden = gap .no-position powered-1 busyLine busyMaster refl;
+      told = gap .missing-is-told power-up busyLine busyMaster refl refl unrelieved (omega arith);
+      hidden = gap .no-position power-up busyLine busyMaster refl;
       shown = refl;
       anew = refl;
       inhibited = refl;
       good-still = refl;
       over = refl;
       unrelieved-still = unrelieved-still;
-      told-then = gap .gap-is-told powered-1 (held ++ wait) busyMaster refl refl refl unrelieved-still (omega arith);
+      told-then = gap .gap-is-told power-up (held ++ wait) busyMaster refl refl refl unrelieved-still (omega arith);
     }

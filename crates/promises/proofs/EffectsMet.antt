@@ -1,12 +1,10 @@
 -- A head by calls from power-up to which every rw entry can be written, by computation: the calls of `ready`, one write after another.
 use Prim.Native.Nat.{ℕ}
-use native.Mathlib.Omega.{arith}
 use lib.IntN.{pos}
 use mathlib.Core.Path.{_≡_, refl, sym, ap, ap₂, subst, _∙_}
 use mathlib.Core.Bool.{Bool, true, false}
 use mathlib.Core.List.{List, [], _∷_, _++_, map}
 use Rattle.cases.proofs.Cases.{Each, _▸_, end}
-use Rattle.entries.specs.declared.Identity.{Identity}
 use Rattle.entries.specs.declared.Reading.{Reading}
 use Rattle.entries.specs.declared.Settings.{Settings}
 use Rattle.entries.specs.declared.table.Found.the-variants.{At}
@@ -27,22 +25,17 @@ use Rattle.promises.specs.States.{preOperational, state, atRest}
 use Rattle.promises.specs.Acts.{settledTo, act}
 use Rattle.promises.specs.Calls.{Call, sample, slot}
 use Rattle.promises.specs.Meant.{Requests, dueTo}
-use Rattle.promises.specs.Histories.{after, PowerUp}
-use Rattle.promises.specs.Worked.{node1, writes}
-use Rattle.promises.specs.Effects.{ready, toNode1, writing, Met, MetWhenReady}
-
-abbrev its-identity : Identity
-its-identity = record { vendor = 1; product = 2; revision = 3; serial = 4 }
-
-abbrev pub power-up : PowerUp
-power-up = record { number = 1; identity = its-identity; fits = record { vendor = omega arith; product = omega arith; revision = omega arith; serial = omega arith } }
+use Rattle.promises.specs.Histories.{after}
+use Rattle.promises.specs.Node1.{identity1, node1, toNode1, writes}
+use Rattle.promises.specs.Effects.{ready, writing, Met, MetWhenReady}
+use Rattle.promises.proofs.Node1.{reached}
 
 -- Node 1, Pre-operational, with that reading, that announced, these settings and that last reply; nothing waits.
 abbrev pub standing : Reading → Bool → Settings → List ℕ → Head
 standing r told s reply =
     record {
       core = record {
-        device = record { node = 1; identity = its-identity; reading = r; errors = 0; settings = s; saved = factory 1 };
+        device = record { node = 1; identity = identity1; reading = r; errors = 0; settings = s; saved = factory 1 };
         nmt = state preOperational;
         announced = told;
         timers = atRest;
@@ -146,7 +139,7 @@ unfolding entries table lookup refusal shownAt due
 met =
     subst Met (sym ready-is)
     (record {
-      reachable = record { start = power-up; calls = ready; so = sym ready-is };
+      reachable = reached ready _ (sym ready-is);
       requests = asked _ _ _ _;
       each = refl;
       accepted = in-turn _ _ each-written;

@@ -1,5 +1,4 @@
 -- `FullLine` of specs/FullLine.antt, by computation.
-use native.Mathlib.Omega.{arith}
 use mathlib.Core.Path.{refl}
 use mathlib.Core.List.{[], _∷_, _++_}
 use Rattle.entries.specs.Table.{entries, table, lookup}
@@ -8,7 +7,9 @@ use Rattle.dictionary.specs.Writes.{written}
 use Rattle.sdo.specs.Service.{due}
 use Rattle.promises.specs.Acts.{settledTo, act}
 use Rattle.promises.specs.Calls.{tick}
-use Rattle.promises.specs.FullLine.{begun, asks, FullLine}
+use Rattle.promises.specs.Node1.{asks}
+use Rattle.promises.specs.FullLine.{begun, full, FullLine}
+use Rattle.promises.proofs.Node1.{reached}
 
 pub full-line : FullLine
 unfolding entries table lookup shownAt written due act settledTo
@@ -16,17 +17,7 @@ full-line =
     record {
       no-slot = refl;
       boots = refl;
-      reachable =
-          record {
-            start =
-                record {
-                  number = 1;
-                  identity = record { vendor = 1; product = 2; revision = 3; serial = 4 };
-                  fits = record { vendor = omega arith; product = omega arith; revision = omega arith; serial = omega arith };
-                };
-            calls = begun ++ asks ∷ tick ∷ [];
-            so = refl;
-          };
+      reachable = reached (begun ++ asks ∷ tick ∷ []) full refl;
       before = refl;
       begins = refl;
       five = refl;

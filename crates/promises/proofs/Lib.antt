@@ -47,6 +47,7 @@ pub mod Kept
 pub mod ReadsOn
 pub mod Resets
 pub mod ResetsMet
+pub mod Node1
 pub mod Worked
 pub mod FullLine
 pub mod Busy

@@ -21,7 +21,8 @@ use Rattle.promises.specs.Acts.{resetTo}
 use Rattle.promises.specs.Calls.{Call, receive, received}
 use Rattle.promises.specs.Meant.{Writes}
 use Rattle.promises.specs.Histories.{after, Reachable}
-use Rattle.promises.specs.Effects.{readsIn, readBack}
+use Rattle.promises.specs.Effects.{readBack}
+use Rattle.promises.specs.Readings.{readsIn}
 use Rattle.promises.specs.Resets.{Alters, None}
 use Rattle.promises.proofs.Valid.{valid-step}
 use Rattle.promises.proofs.Histories.{valid-reachable}

@@ -24,10 +24,13 @@ use Rattle.promises.specs.Acts.{settledTo, act}
 use Rattle.promises.specs.Calls.{receive, received}
 use Rattle.promises.specs.Meant.{Commands, dueTo}
 use Rattle.promises.specs.Histories.{after}
-use Rattle.promises.specs.Worked.{node1, missing, writes}
-use Rattle.promises.specs.Effects.{readsIn, toNode1, writing}
-use Rattle.promises.specs.Resets.{Saves, None, command, beating, between, Met, MetBySave, MetByLoad}
-use Rattle.promises.proofs.EffectsMet.{power-up, standing, asked}
+use Rattle.promises.specs.Node1.{node1, toNode1, writes, toAll}
+use Rattle.promises.specs.Worked.{missing}
+use Rattle.promises.specs.Effects.{writing}
+use Rattle.promises.specs.Readings.{readsIn}
+use Rattle.promises.specs.Resets.{Saves, None, beating, between, Met, MetBySave, MetByLoad}
+use Rattle.promises.proofs.EffectsMet.{standing, asked}
+use Rattle.promises.proofs.Node1.{reached}
 
 -- missing and told, with this 1017h and reply
 abbrev settings : ℕ → Settings
@@ -64,13 +67,13 @@ module _ (b : List ℕ) (k v n : ℕ) where
   f = toNode1 b
 
   met : dueTo settled f ≡ confirmation k v → None Saves (received settled f .head) between
-      → Commands (after (received settled f .head) between) (command 0x81) (toReset ofNode)
-      → readsIn (received (after (received settled f .head) between) (command 0x81) .head) 0x1017 0 ≡ some (Number n)
+      → Commands (after (received settled f .head) between) (toAll 0x81) (toReset ofNode)
+      → readsIn (received (after (received settled f .head) between) (toAll 0x81) .head) 0x1017 0 ≡ some (Number n)
       → Met (after node1 beating) f k v n
   met accepted none-saves commands reads-again =
       subst (λ h. Met h f k v n) (sym beating-is)
       (record {
-        reachable = record { start = power-up; calls = beating; so = sym beating-is };
+        reachable = reached beating _ (sym beating-is);
         written = record { requests = asked _ _ _ _ b; accepted = accepted };
         none-saves = none-saves;
         commands = commands;

@@ -10,8 +10,7 @@ use Rattle.parts.specs.declared.Sensor.the-variants.{Missing, Raw}
 use Rattle.promises.specs.States.{isLive}
 use Rattle.promises.specs.Calls.{Call, tick, sample, slot, step}
 use Rattle.promises.specs.Histories.{after, slots, sent}
-use Rattle.promises.specs.Worked.{node1, writes}
-use Rattle.promises.specs.FullLine.{command, sync, asks}
+use Rattle.promises.specs.Node1.{node1, asks, writes, command, sync}
 use Rattle.promises.specs.Gap.{among, lastEmergency, saysMissing, saysGood, isPosition, Unrelieved}
 
 -- Boot-up, missing told, a good sample told, 1017h = 1, Operational: TPDO1, the heartbeat, a reply and TPDO2 wait.

@@ -18,7 +18,6 @@ use Rattle.entries.specs.Table.{missing, table, keyOf}
 use Rattle.dictionary.specs.declared.read.Shown.{Shown}
 use Rattle.dictionary.specs.declared.read.Shown.the-variants.{Blank, Number}
 use Rattle.dictionary.specs.Accepted.{on}
-use Rattle.dictionary.specs.Reads.{reads}
 use Rattle.dictionary.specs.Writes.{rangeFor, rescaledTo}
 use Rattle.dictionary.specs.Worked.{takeAll, writes as allWrites}
 use Rattle.sdo.specs.Request.{indexOf, subOf}
@@ -39,7 +38,9 @@ use Rattle.promises.specs.Calls.{Call, sample, slot, received}
 use Rattle.promises.specs.Valid.{waits}
 use Rattle.promises.specs.Meant.{Requests, dueTo}
 use Rattle.promises.specs.Histories.{after, Reachable}
-use Rattle.promises.specs.Worked.{node1, writes}
+use Rattle.promises.specs.Node1.{node1, toNode1, writes}
+use Rattle.promises.specs.Withdrawals.{identifierKey}
+use Rattle.promises.specs.Readings.{readsIn}
 
 -- what a list has for the key k; a where it has nothing
 abbrev pub given : {A : Type 0} → List (ℕ × A) → ℕ → A → A
@@ -78,10 +79,6 @@ named d o v =
 abbrev pub effects : Device → Bool → ℕ → ℕ → List (ℕ × Shown)
 effects d o k v = given (named d o v) k ((k, Number v) ∷ [])
 
--- What the entry i-j of a head reads; none where there is no entry.
-abbrev pub readsIn : Head → ℕ → ℕ → Option Shown
-readsIn h i j = reads (h .core .device) (isIn operational (h .core)) i j
-
 -- read anew where it is named, and else as before
 abbrev pub anew : List (ℕ × Shown) → ℕ → Option Shown → Option Shown
 anew es k none = none
@@ -95,17 +92,12 @@ savedBy d k = given ((0x1010_01, d .settings) ∷ (0x1011_01, factory (d .node))
 abbrev pub readBack : ℕ → ℕ → ℕ
 readBack k v = given ((0x1010_01, 1) ∷ (0x1011_01, 1) ∷ []) k v
 
--- sub 1 of a PDO
-abbrev pub sub1 : Which → ℕ
-sub1 one = 0x1800_01
-sub1 two = 0x1801_01
-
 -- A write of v to the entry of key k switches a PDO on: bit 31 of sub 1 goes from 1 to 0; or off.
 abbrev pub switchesOn : Core → ℕ → ℕ → Which → Bool
-switchesOn c k v w = eqb k (sub1 w) && (not (on (pdo (communication c) w .identifier)) && on v)
+switchesOn c k v w = eqb k (identifierKey w) && (not (on (pdo (communication c) w .identifier)) && on v)
 
 abbrev pub switchesOff : ℕ → ℕ → Which → Bool
-switchesOff k v w = eqb k (sub1 w) && not (on v)
+switchesOff k v w = eqb k (identifierKey w) && not (on v)
 
 -- What is counted: the heartbeat's ticks, a PDO's ticks, its SYNCs.
 pub data Counted : Type 0 where
@@ -196,10 +188,6 @@ ready =
     writes (bytes 0x23 0x00 0x18 0x01 0x81 0x01 0x00 0x80) ++
     writes (bytes 0x23 0x01 0x18 0x01 0x81 0x02 0x00 0x80) ++
     writes (bytes 0x2B 0x00 0x60 0x00 0x04 0x00 0 0)
-
--- eight bytes as a frame to node 1
-abbrev pub toNode1 : List ℕ → Received
-toNode1 b = record { identifier = 0x601; extended = false; remote = false; length = 8; bytes = b }
 
 -- a write of v to the entry of key k, of the entry's length
 abbrev pub writing : ℕ × ℕ → Received

@@ -2,7 +2,6 @@
 -- and each of 01's withdrawals takes what it names and no more. Shows that what specs/FiveSlots.antt asks of a head and of calls can be met.
 use Prim.Native.Nat.{ℕ}
 use mathlib.Core.Path.{_≡_}
-use mathlib.Core.Bool.{false}
 use mathlib.Core.List.{List, [], _∷_, _++_}
 use Rattle.sdo.specs.Worked.{bytes}
 use Rattle.waiting.specs.Line.{emergency, sdoReply, heartbeat, tpdo1, tpdo2}
@@ -10,23 +9,10 @@ use Rattle.waiting.specs.Places.{waiting}
 use Rattle.parts.specs.declared.Head.{Head}
 use Rattle.parts.specs.declared.Sensor.the-variants.{Missing, Raw}
 use Rattle.promises.specs.WaitingLine.{frame}
-use Rattle.promises.specs.Calls.{Call, receive, tick, sample, slot, step}
+use Rattle.promises.specs.Calls.{Call, tick, sample, slot, step}
 use Rattle.promises.specs.Histories.{after, slots, sent, Reachable}
-use Rattle.promises.specs.Worked.{node1, request, missing, writes, inverted}
-
-abbrev pub received : ℕ → ℕ → List ℕ → Call
-received identifier length content = receive (record { identifier = identifier; extended = false; remote = false; length = length; bytes = content })
-
--- an NMT command to all nodes, and a SYNC
-abbrev pub command : ℕ → Call
-command c = received 0x000 2 (bytes c 0 0 0 0 0 0 0)
-
-abbrev pub sync : Call
-sync = received 0x080 0 (bytes 0 0 0 0 0 0 0 0)
-
--- a read of 6004h
-abbrev pub asks : Call
-asks = request (bytes 0x40 0x04 0x60 0x00 0 0 0 0)
+use Rattle.promises.specs.Node1.{node1, request, asks, writes, command, sync}
+use Rattle.promises.specs.Worked.{missing, inverted}
 
 -- missing told, inverted, 1017h = 1; then the reading is good, Operational is entered and a SYNC comes
 abbrev pub begun : List Call

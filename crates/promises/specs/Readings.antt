@@ -31,7 +31,7 @@ use Rattle.promises.specs.Calls.{Call, receive, tick, sample, slot, badS
 use Rattle.promises.specs.Meant.{Commands, dueTo, Writes}
 use Rattle.promises.specs.Histories.{after}
 
--- what the entry i-j of the head reads
+-- What the entry i-j of a head reads; none where there is no entry.
 abbrev pub readsIn : Head → ℕ → ℕ → Option Shown
 readsIn h i j = reads (h .core .device) (isIn operational (h .core)) i j
 

@@ -25,8 +25,10 @@ use Rattle.promises.specs.Calls.{Call, receive, tick, sample, slot, step
 use Rattle.promises.specs.Meant.{Commands, Writes}
 use Rattle.promises.specs.Histories.{after, Reachable}
 use Rattle.promises.specs.Laws.{Restarted}
-use Rattle.promises.specs.Worked.{node1, missing, writes}
-use Rattle.promises.specs.Effects.{readsIn, readBack, writing}
+use Rattle.promises.specs.Node1.{node1, writes, toAll}
+use Rattle.promises.specs.Worked.{missing}
+use Rattle.promises.specs.Effects.{readBack, writing}
+use Rattle.promises.specs.Readings.{readsIn}
 
 -- below 2000h; 6200-0 is 1800-5 under a second index
 abbrev pub below2000 : ℕ → Bool
@@ -101,10 +103,6 @@ pub record Resets : Type 0 where
   pub loads : Restores 0x1011_01 (λ h. factory (node (h .core)))
   pub runs-on : (h : Head) → Reachable h → (f : Received) (v : ℕ) → Writes h f 0x1011_01 v → (i j : ℕ) → readsIn (received h f .head) i j ≡ readsIn h i j
 
--- an NMT command to all nodes
-abbrev pub command : ℕ → Received
-command b = record { identifier = 0x000; extended = false; remote = false; length = 2; bytes = bytes b 0 0 0 0 0 0 0 }
-
 -- Node 1 by calls from power-up: Pre-operational, 1017h = 1,000.
 abbrev pub beating : List Call
 beating = missing ++ writes (bytes 0x2B 0x17 0x10 0x00 0xE8 0x03 0 0)
@@ -118,8 +116,8 @@ pub record Met (h : Head) (f : Received) (k v n : ℕ) : Type 0 where
   pub reachable : Reachable h
   pub written : Writes h f k v
   pub none-saves : None Saves (received h f .head) between
-  pub commands : Commands (after (received h f .head) between) (command 0x81) (toReset ofNode)
-  pub reads-again : readsIn (received (after (received h f .head) between) (command 0x81) .head) 0x1017 0 ≡ some (Number n)
+  pub commands : Commands (after (received h f .head) between) (toAll 0x81) (toReset ofNode)
+  pub reads-again : readsIn (received (after (received h f .head) between) (toAll 0x81) .head) 0x1017 0 ≡ some (Number n)
 
 -- "save": 1017h is 1,000 again; "load": it is 0, the factory's
 abbrev pub MetBySave : Type 0

@@ -1,32 +1,21 @@
 -- What Service, Readings and ErrorList ask for can be met: runs of node 1 from power-up.
 use Prim.Native.Nat.{ℕ}
 use mathlib.Core.Path.{_≡_}
-use mathlib.Core.Bool.{true, false}
+use mathlib.Core.Bool.{true}
 use mathlib.Core.List.{List, [], _∷_, _++_}
 use mathlib.Core.Option.{none, some}
-use Rattle.can.specs.declared.Received.{Received}
 use Rattle.dictionary.specs.declared.read.Shown.the-variants.{Blank, Number}
 use Rattle.cases.specs.Tests.{within}
 use Rattle.sdo.specs.Worked.{bytes}
 use Rattle.parts.specs.declared.Sensor.the-variants.{Missing, Raw}
-use Rattle.promises.specs.Calls.{Call, receive, sample, slot, slotted}
+use Rattle.promises.specs.Calls.{Call, sample, slot, slotted}
 use Rattle.promises.specs.Meant.{Requests, Writes}
 use Rattle.promises.specs.Histories.{after}
-use Rattle.promises.specs.Worked.{node1, request, answer, sends, at}
+use Rattle.promises.specs.Node1.{node1, toNode1, request, command}
+use Rattle.promises.specs.Worked.{answer, sends, at}
 use Rattle.promises.specs.Service.{sendsReply, owed}
 use Rattle.promises.specs.Readings.{readsIn, Unmoved}
 use Rattle.promises.specs.ErrorList.{losses}
-
--- a data frame
-abbrev pub dataFrame : ℕ → ℕ → List ℕ → Received
-dataFrame identifier length content = record { identifier = identifier; extended = false; remote = false; length = length; bytes = content }
-
--- NMT commands 01h and 02h to all
-abbrev pub starting : Call
-starting = receive (dataFrame 0x000 2 (bytes 0x01 0x00 0 0 0 0 0 0))
-
-abbrev pub stopping : Call
-stopping = receive (dataFrame 0x000 2 (bytes 0x02 0x00 0 0 0 0 0 0))
 
 -- the requests of P1 and P3
 abbrev pub p1 : List ℕ
@@ -44,14 +33,14 @@ abbrev pub askedAgain : List Call
 askedAgain = asked ++ slot ∷ request p3 ∷ []
 
 pub record Serving : Type 0 where
-  pub requests : Requests (after node1 (slot ∷ [])) (dataFrame 0x601 8 p1)
+  pub requests : Requests (after node1 (slot ∷ [])) (toNode1 p1)
   pub sends-first : sendsReply (after node1 asked) ≡ true
   pub owes-first : owed node1 none asked ≡ some (bytes 0x43 0x01 0x65 0x00 0x88 0x13 0x00 0x00)
   pub answers-first : answer (after node1 asked) ≡ sends 0x581 8 (bytes 0x43 0x01 0x65 0x00 0x88 0x13 0x00 0x00)
   pub sends-next : sendsReply (after node1 askedAgain) ≡ true
   pub owes-next : owed node1 none askedAgain ≡ some (bytes 0x80 0x17 0x10 0x00 0x13 0x00 0x07 0x06)
   pub answers-next : answer (after node1 askedAgain) ≡ sends 0x581 8 (bytes 0x80 0x17 0x10 0x00 0x13 0x00 0x07 0x06)
-  pub withdrawn : owed node1 none (asked ++ stopping ∷ []) ≡ none
+  pub withdrawn : owed node1 none (asked ++ command 0x02 ∷ []) ≡ none
 
 -- Pre-operational, at 100
 abbrev pub ready : List Call
@@ -63,11 +52,11 @@ to40 = bytes 0x23 0x03 0x60 0x00 0x28 0 0 0
 
 pub record Positioning : Type 0 where
   pub blank-at-first : readsIn node1 0x6004 0 ≡ some Blank
-  pub presets : Writes (after node1 ready) (dataFrame 0x601 8 to40) 0x6003_00 40
+  pub presets : Writes (after node1 ready) (toNode1 to40) 0x6003_00 40
   pub unmoved : Unmoved (after node1 (ready ++ request to40 ∷ [])) (slot ∷ [])
   pub reads-preset : readsIn (after node1 (ready ++ request to40 ∷ slot ∷ [])) 0x6004 0 ≡ some (Number 40)
-  pub waits : slotted (after node1 (ready ++ starting ∷ [])) .waited ≡ true
-  pub shows : within 0x181 0x57F (slotted (after node1 (ready ++ starting ∷ [])) .frame .identifier) ≡ true
+  pub waits : slotted (after node1 (ready ++ command 0x01 ∷ [])) .waited ≡ true
+  pub shows : within 0x181 0x57F (slotted (after node1 (ready ++ command 0x01 ∷ [])) .frame .identifier) ≡ true
 
 -- a good-to-missing change
 abbrev pub loss : List Call
@@ -83,7 +72,7 @@ emptied = request (bytes 0x2F 0x03 0x10 0x00 0 0 0 0) ∷ []
 pub record Losing : Type 0 where
   pub five-lost : losses node1 Missing 0 five ≡ 5
   pub four-read : readsIn (after node1 five) 0x1003 0 ≡ some (Number 4)
-  pub empties : Writes (after node1 five) (dataFrame 0x601 8 (bytes 0x2F 0x03 0x10 0x00 0 0 0 0)) 0x1003_00 0
+  pub empties : Writes (after node1 five) (toNode1 (bytes 0x2F 0x03 0x10 0x00 0 0 0 0)) 0x1003_00 0
   pub one-lost : losses node1 Missing 0 (five ++ emptied ++ loss) ≡ 1
   pub one-read : readsIn (after node1 (five ++ emptied ++ loss)) 0x1003 0 ≡ some (Number 1)
   pub second-blank : readsIn (after node1 (five ++ emptied ++ loss)) 0x1003 2 ≡ some Blank

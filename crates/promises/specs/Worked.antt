@@ -8,16 +8,9 @@ use Rattle.sdo.specs.Worked.{bytes}
 use Rattle.parts.specs.declared.Head.{Head}
 use Rattle.parts.specs.declared.Sensor.the-variants.{Missing, Raw}
 use Rattle.promises.specs.WaitingLine.{frame}
-use Rattle.promises.specs.Calls.{Call, receive, tick, sample, slot, step, poweredUp, slotted, noFrame}
+use Rattle.promises.specs.Calls.{Call, receive, tick, sample, slot, step, slotted, noFrame}
 use Rattle.promises.specs.Histories.{after}
-
--- node 1, identity 1, 2, 3, 4
-abbrev pub node1 : Head
-node1 = poweredUp 1 (record { vendor = 1; product = 2; revision = 3; serial = 4 }) .head
-
--- the eight bytes as a frame 601h
-abbrev pub request : List ℕ → Call
-request b = receive (record { identifier = 0x601; extended = false; remote = false; length = 8; bytes = b })
+use Rattle.promises.specs.Node1.{node1, request, writes}
 
 -- what a slot answers: a frame, or none
 abbrev pub answer : Head → Bool × Frame
@@ -37,10 +30,6 @@ missing = slot ∷ slot ∷ []
 -- at the raw position r
 abbrev pub at : ℕ → List Call
 at r = sample (Raw r) ∷ slot ∷ []
-
--- a write, and its reply sent
-abbrev pub writes : List ℕ → List Call
-writes f = request f ∷ slot ∷ []
 
 -- 6004h reads
 abbrev pub Reads : List Call → List ℕ → Type 0

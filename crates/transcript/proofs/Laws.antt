@@ -1,5 +1,5 @@
 -- `Laws` of specs/Laws.antt.
-use Rattle.promises.specs.Worked.{node1}
+use Rattle.promises.specs.Node1.{node1}
 use Rattle.text.specs.Grammar.{says}
 use Rattle.transcript.specs.Laws.{Laws}
 use Rattle.transcript.proofs.Refusals.{identifier-refused, length-refused, sample-refused, malformed-refused, too-long}

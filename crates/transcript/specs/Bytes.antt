@@ -8,7 +8,7 @@ use mathlib.Core.List.{List, [], _∷_, _++_}
 use lib.Dec.{eqb}
 use lib.ListN.{length, take, drop}
 use Rattle.parts.specs.declared.Head.{Head}
-use Rattle.promises.specs.Worked.{node1}
+use Rattle.promises.specs.Node1.{node1}
 use Rattle.text.specs.Lines.{longest, lineOf, blank, held, pushed}
 use Rattle.text.specs.Grammar.{saysLine}
 use Rattle.text.specs.declared.line.Line.{Line}

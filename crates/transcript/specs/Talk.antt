@@ -3,7 +3,7 @@
 use Prim.Native.Nat.{ℕ}
 use mathlib.Core.List.{List, [], _∷_, _++_}
 use Rattle.parts.specs.declared.Head.{Head}
-use Rattle.promises.specs.Worked.{node1}
+use Rattle.promises.specs.Node1.{node1}
 use Rattle.text.specs.Lines.{lines}
 use Rattle.text.specs.Grammar.{says}
 use Rattle.transcript.specs.Commands.{Outcome, obeyed}
