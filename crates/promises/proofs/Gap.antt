@@ -23,7 +23,7 @@ use Rattle.promises.specs.Gap.{nodeOf, among, lastEmergency, saysMissing
 use Rattle.promises.proofs.States.{not-live}
 use Rattle.promises.proofs.Valid.{valid-step}
 use Rattle.promises.proofs.Meant.{core-step, inhibit-after}
-use Rattle.promises.proofs.Laws.{laws}
+use Rattle.promises.proofs.Valid.{emergency-exactly}
 use Rattle.promises.proofs.FiveSlots.{five-slots}
 use Rattle.promises.proofs.Histories.{after-append, valid-after, valid-powered}
 use Rattle.promises.proofs.Inhibit.{inhibit-left, rounded-up}
@@ -205,7 +205,7 @@ pub gap : Gap
 gap =
     record {
       same-node = its-node;
-      waits-exactly = λ p cs. laws .emergency-exactly (after (powered p) cs) (valid p cs);
+      waits-exactly = λ p cs. emergency-exactly (after (powered p) cs) (valid p cs);
       inhibit-left = inhibit-left;
       no-inhibit = refl;
       rounded-up = rounded-up;

@@ -25,10 +25,9 @@ use Rattle.promises.specs.Gap.{nodeOf, among, isEmergency, isCommand, re
 use Rattle.promises.proofs.Valid.{valid-step}
 use Rattle.promises.proofs.Slots.{sends-first}
 use Rattle.promises.proofs.Answers.{AtSlot, booting, idling, sending, at-slot}
-use Rattle.promises.proofs.Meant.{core-step, inhibit-after}
+use Rattle.promises.proofs.Meant.{core-step, inhibit-after, resets as resets-to}
 use Rattle.promises.proofs.Causes.{Cause, cause}
 use Rattle.promises.proofs.Unmeant.{not-meant}
-use Rattle.promises.proofs.Laws.{laws}
 use Rattle.promises.proofs.Histories.{valid-powered}
 use Rattle.promises.proofs.Known.{framed, frames-by, sent-waits, known, known-boot-up}
 use Rattle.promises.proofs.Announced.{node-step, node-powered}
@@ -60,7 +59,7 @@ module _ (n : ℕ) (h : Head) (q : node (h .core) ≡ n) (v : Valid h) where
   ended f e =
       test (isInitialising c)
       (λ i. ap (λ (m : Head). m .core .timers .inhibit) (not-meant h f v (not-booted i)) ∙ none-runs i)
-      (λ i. let r = resets-heard n h f q i e in ap (λ t. t .inhibit) (laws .resets h f (r .0) (r .1) .timers))
+      (λ i. let r = resets-heard n h f q i e in ap (λ t. t .inhibit) (resets-to h f (r .0) (r .1) .timers))
 
   abbrev Left : Act → Type 0
   Left a = acted c a .timers .inhibit ≡ cond (among (isEmergency n) (framed (frameBy c a))) (inhibitTicks (communication c .inhibit)) (c .timers .inhibit)

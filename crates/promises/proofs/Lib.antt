@@ -15,7 +15,7 @@ pub mod Causes
 pub mod Answers
 pub mod Conditions
 pub mod Withdrawals
-pub mod Laws
+pub mod NetworkStates
 pub mod Histories
 pub mod Demand1
 pub mod Turns

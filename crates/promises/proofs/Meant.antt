@@ -1,16 +1,13 @@
 -- What a call that means something does.
-use Prim.Native.Nat.{ℕ, _≤_}
 use native.Mathlib.Omega.{arith}
 use lib.Dec.{eqb, ltb, leb}
 use mathlib.Core.Path.{_≡_, refl, sym, ap, _∙_}
 use mathlib.Core.Bool.{Bool, true, false, not, _&&_, Bool·beq, and-false}
-use borrow.Author.Tests.{eqb-true, eq-eqb, le-ltb}
+use borrow.Author.Tests.{eqb-true, eq-eqb}
 use Rattle.cases.proofs.Cases.{by, both, true-false}
 use Rattle.can.specs.declared.Received.{Received}
 use Rattle.sdo.specs.declared.reply.Effect.{Effect}
 use Rattle.sdo.specs.declared.reply.Effect.the-variants.{Nothing, Reply, Write}
-use Rattle.sdo.specs.Reply.{replies}
-use Rattle.sdo.specs.Service.{answer, due}
 use Rattle.waiting.specs.Line as line
 use Rattle.waiting.specs.Line.{places, has, first}
 use Rattle.waiting.specs.Places.{waiting}
@@ -18,14 +15,13 @@ use Rattle.waiting.proofs.Laws.{laws}
 use Rattle.parts.specs.declared.Core.{Core}
 use Rattle.parts.specs.declared.Head.{Head}
 use Rattle.parts.specs.declared.Sensor.the-variants.{Missing, Raw}
-use Rattle.promises.specs.States.{Goal, operational, code, state, isIn, isInitialising, isLive, node, good, communication, missingReading, Reset, one, two, Command, noCommand, toEnter, toReset, commandOf}
-use Rattle.promises.specs.Timers.{inhibitTicks}
+use Rattle.promises.specs.States.{Goal, operational, code, state, isIn, isInitialising, isLive, node, good, Reset, one, two, Command, noCommand, toEnter, toReset, commandOf}
 use Rattle.promises.specs.WaitingLine.{Kind, emergency, sdoReply, heartbeat, tpdo, number, kindOf, flag, may}
-use Rattle.promises.specs.Acts.{Act, send, take, acted, moments, timersAfter, errorsAfter, settledTo, act}
-use Rattle.promises.specs.Calls.{Call, receive, tick, sample, slot, commanded, meant, sampledAs, step, received, sampled, slotted}
+use Rattle.promises.specs.Acts.{Act, send, acted, moments, timersAfter, settledTo, act}
+use Rattle.promises.specs.Calls.{Call, receive, tick, sample, slot, commanded, meant, step, received, slotted}
 use Rattle.promises.specs.Valid.{waits, Valid}
 use Rattle.promises.specs.Meant.{Commands}
-use Rattle.promises.specs.Laws.{Restarted}
+use Rattle.promises.specs.Resets.{Restarted}
 use Rattle.promises.proofs.Hearing.{heard-by}
 use Rattle.promises.proofs.Waits.{waits-act}
 use Rattle.promises.proofs.Slots.{sends-first}
@@ -49,33 +45,11 @@ module _ (h : Head) (f : Received) where
       rw (core-step h (receive f), commands m)
       (record { initialising = refl; timers = refl; announced = refl; settings = refl; saved = refl; reading = refl; errors = refl })
 
-module _ (h : Head) where
-  pub takes-raw : (r : ℕ) → r ≤ 1048575 → sampled h (Raw r) .head .core .device .reading ≡ record { good = true; raw = r }
-  takes-raw r b =
-      let m : sampledAs (Raw r) ≡ take r = rw (le-ltb 1048575 r b) in
-      ap (λ c. c .device .reading) (core-step h (sample (Raw r)) ∙ ap (acted (h .core)) m)
-
-  pub loses : let d = sampled h Missing .head .core .device in (d .reading ≡ missingReading) × (d .errors ≡ errorsAfter (h .core .device))
-  loses = rw (core-step h (sample Missing)) (refl, refl)
-
--- no frame but a reset alters a running inhibit time
+-- no request alters a running inhibit time
 pub inhibit-after : (c : Core) (e : Effect) → timersAfter c e .inhibit ≡ c .timers .inhibit
 inhibit-after c Nothing = refl
 inhibit-after c Reply = refl
 inhibit-after c (Write k v) = refl
-
-pub inhibit-runs : (h : Head) (f : Received) → (f .identifier ≡ 0x000 → ⊥) → received h f .head .core .timers .inhibit ≡ h .core .timers .inhibit
-inhibit-runs h f n =
-    ap (λ c. c .timers .inhibit) (core-step h (receive f))
-    ∙ heard-by h f Kept refl (λ _ e. absurd (n e))
-    (λ _ _. by Kept (leb (f .length) 1 && isIn operational (h .core)) (λ _. refl) (λ _. refl))
-    (λ _ _. by Kept (eqb (f .length) 8 && isLive (h .core) && not (has line.sdoReply (h .line)))
-    (λ _. let s = answer (f .bytes) (due (h .core .device) (isIn operational (h .core)) (f .bytes)) in
-    by Kept (replies (s .effect)) (λ _. inhibit-after (h .core) (s .effect)) (λ _. refl))
-    (λ _. refl))
-  where
-    Kept : Act → Type 0
-    Kept a = acted (h .core) a .timers .inhibit ≡ h .core .timers .inhibit
 
 -- while a reply waits its bytes stay
 module _ (c : Core) where
@@ -120,10 +94,6 @@ beq-self false = refl
 
 -- a slot that sends
 module _ (h : Head) (v : Valid h) (i : isInitialising (h .core) ≡ false) where
-  pub announces : first (waiting (h .line)) ≡ number emergency
-      → let c = slotted h .head .core in (c .announced ≡ good (h .core)) × (c .timers .inhibit ≡ inhibitTicks (communication (h .core) .inhibit))
-  announces e = rw (core-step h slot, sends-first h v i emergency e) (refl, refl)
-
   -- what is sent does not join in the same call
   sent-rests : (k : Kind) → (flag (moments (h .core) (send k)) k && may (acted (h .core) (send k)) k) ≡ false
   sent-rests emergency = rw (beq-self (good (h .core))) (simp and-false)

@@ -27,7 +27,7 @@ use Rattle.promises.specs.Acts.{serve, serving, requestMoments, goes, co
 use Rattle.promises.specs.Valid.{waits, Valid}
 use Rattle.promises.specs.Effects.{takes, brings}
 use Rattle.promises.proofs.Waits.{has-those, holds-act}
-use Rattle.promises.proofs.Laws.{laws as head-laws}
+use Rattle.promises.proofs.Valid.{emergency-exactly}
 use Rattle.promises.proofs.Restarts.{own-identifier}
 use Rattle.promises.proofs.Slots.{number-is}
 
@@ -134,7 +134,7 @@ module _ (h : Head) (valid : Valid h) (l : isLive (h .core) ≡ true) (free : wa
   only-reply bytes =
       let s : Served = record { bytes = bytes; effect = Reply } in
       let none-goes : goes c (serving c s) ≡ [] = simp and-not-self in
-      let none-comes = ap (λ t. t && not (waits h emergency)) (sym (head-laws .emergency-exactly h valid)) ∙ and-not-self (waits h emergency) in
+      let none-comes = ap (λ t. t && not (waits h emergency)) (sym (emergency-exactly h valid)) ∙ and-not-self (waits h emergency) in
       served-line s (ap (withdraws ws) none-goes) none-comes
 
   -- an accepted write
@@ -148,7 +148,7 @@ module _ (h : Head) (valid : Valid h) (l : isLive (h .core) ≡ true) (free : wa
       ∙ ends c f k v x (valid .only x w)
       ∙ sym (has-those (takes k v) x) in
       let still = has-withdraws line.emergency ws (those (takes k v)) ∙ ap (λ t. not t && waits h emergency) (has-those (takes k v) emergency) in
-      let comes = begins (eqb k 0x1014_00) (c .nmt) v (communication c .emergency) (c .timers .inhibit) (good c) (c .announced) (waits h emergency) (head-laws .emergency-exactly h valid) in
+      let comes = begins (eqb k 0x1014_00) (c .nmt) v (communication c .emergency) (c .timers .inhibit) (good c) (c .announced) (waits h emergency) (emergency-exactly h valid) in
       served-line (confirmed f k v)
       (withdrawn-alike ws (goes c now) (those (takes k v)) (valid .line .kinds) alike)
       (ap (λ t. may now emergency && not t) still ∙ comes)

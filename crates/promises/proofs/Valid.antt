@@ -99,3 +99,12 @@ valid-started n i low high named =
     none-waits heartbeat e = e
     none-waits (tpdo one) e = e
     none-waits (tpdo two) e = e
+
+-- the emergency waits exactly while its condition holds
+pub emergency-exactly : (h : Head) → Valid h → waits h emergency ≡ may (h .core) emergency
+emergency-exactly h v = same (waits h emergency) (may (h .core) emergency) (v .only emergency) (v .urgent)
+  where
+    same : (t u : Bool) → (t ≡ true → u ≡ true) → (u ≡ true → t ≡ true) → t ≡ u
+    same true u f g = sym (f refl)
+    same false true f g = g refl
+    same false false f g = refl

@@ -5,12 +5,12 @@ use mathlib.Core.Logic.{_⊎_, _↔_}
 use mathlib.Core.Bool.{Bool, true, false}
 use mathlib.Core.List.{List, [], _∷_, _++_}
 use Rattle.can.specs.declared.Frame.{Frame}
-use Rattle.waiting.specs.Line.{order, has, first}
+use Rattle.waiting.specs.Line.{places, order, has, Kinds, first}
 use Rattle.waiting.specs.Places.{waiting}
 use Rattle.waiting.specs.Laws.{Among}
 use Rattle.parts.specs.declared.Head.{Head}
 use Rattle.promises.specs.States.{isInitialising, node}
-use Rattle.promises.specs.WaitingLine.{Kind, number, frame, bootUpFrame, frameOf}
+use Rattle.promises.specs.WaitingLine.{may, Kind, number, frame, bootUpFrame, frameOf}
 use Rattle.promises.specs.Calls.{Call, slot, step, slotted, noFrame}
 use Rattle.promises.specs.Valid.{waits}
 use Rattle.promises.specs.Histories.{after, slots, Reachable}
@@ -71,6 +71,9 @@ pub record FiveSlots : Type 0 where
   -- What one of the list takes no longer waits, nor does it join again in the same call; and so what is sent.
   pub withdrawn : (h : Head) → Reachable h → (c : Call) (k : Kind) → Withdrawal h c k → waits (step h c) k ≡ false
   pub sent : (h : Head) → Reachable h → (c : Call) (k : Kind) → Sends h c k → waits (step h c) k ≡ false
+  -- Five kinds can wait: ..; each at most once. And each only while it may.
+  pub once : (h : Head) → Reachable h → Kinds places (waiting (h .line))
+  pub only-while : (h : Head) → Reachable h → (k : Kind) → waits h k ≡ true → may (h .core) k ≡ true
   pub lines-up : (h : Head) → Reachable h → (c : Call) → Lined h c
   -- In Initialising .. only the boot-up frame .. waits: until the next slot, whatever is called before it, and that slot answers it.
   pub boots : (h : Head) → Reachable h → isInitialising (h .core) ≡ true → (cs : List Call) → slots cs ≡ 0 → BootUpWaits (node (h .core)) (after h cs)

@@ -7,7 +7,7 @@ pub mod Valid
 pub mod Meant
 pub mod Promised
 pub mod Histories
-pub mod Laws
+pub mod NetworkStates
 pub mod Demand1
 pub mod Service
 pub mod Readings

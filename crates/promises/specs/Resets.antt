@@ -18,13 +18,13 @@ use Rattle.sdo.specs.Request.{indexOf, subOf}
 use Rattle.sdo.specs.Worked.{bytes}
 use Rattle.waiting.specs.Line as line
 use Rattle.waiting.specs.Places.{waiting}
+use Rattle.parts.specs.declared.Core.{Core}
 use Rattle.parts.specs.declared.Head.{Head}
 use Rattle.promises.specs.States.{preOperational, state, isInitialising, node, communication, good, atRest, Reset, ofNode, ofCommunication, restored, toReset}
 use Rattle.promises.specs.Acts.{resetTo}
 use Rattle.promises.specs.Calls.{Call, receive, tick, sample, slot, step, received, slotted}
 use Rattle.promises.specs.Meant.{Commands, Writes}
 use Rattle.promises.specs.Histories.{after, Reachable}
-use Rattle.promises.specs.Laws.{Restarted}
 use Rattle.promises.specs.Node1.{node1, writes, toAll}
 use Rattle.promises.specs.Worked.{missing}
 use Rattle.promises.specs.Effects.{readBack, writing}
@@ -41,10 +41,20 @@ settingsFor ofNode d i = d .saved
 -- 82h only those below 2000h.
 settingsFor ofCommunication d i = cond (below2000 i) (d .saved) (d .settings)
 
+-- 81h sets all settings to the saved set; 82h only those below 2000h. Both enter Initialising, .. end any inhibit time and forget what was
+-- announced ("good" counts as announced). Reading and error list stay.
+pub record Restarted (r : Reset) (before after : Core) : Type 0 where
+  pub initialising : isInitialising after ≡ true
+  pub timers : after .timers ≡ atRest
+  pub announced : after .announced ≡ true
+  pub settings : after .device .settings ≡ restored r (before .device .settings) (before .device .saved)
+  pub saved : after .device .saved ≡ before .device .saved
+  pub reading : after .device .reading ≡ before .device .reading
+  pub errors : after .device .errors ≡ before .device .errors
+
 pub record HasReset (r : Reset) (h a : Head) : Type 0 where
   -- (the head is not Operational then)
   pub entries : (i j : ℕ) → let d = h .core .device in readsIn a i j ≡ reads (resetTo d (settingsFor r d i)) false i j
-  -- Both enter Initialising, .. end any inhibit time and forget what was announced ("good" counts as announced). Reading and error list stay.
   pub restarted : Restarted r (h .core) (a .core)
   pub node : a .core .device .node ≡ h .core .device .node
   pub identity : a .core .device .identity ≡ h .core .device .identity
