@@ -49,5 +49,7 @@ pub mod Resets
 pub mod ResetsMet
 pub mod Node1
 pub mod Worked
+pub mod Demand2
+pub mod Demand3
 pub mod FullLine
 pub mod Busy

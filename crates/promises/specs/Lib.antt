@@ -4,11 +4,10 @@ pub mod Timers
 pub mod Acts
 pub mod Calls
 pub mod Valid
-pub mod Meant
 pub mod Promised
+pub mod Meant
 pub mod Histories
 pub mod NetworkStates
-pub mod Demand1
 pub mod Service
 pub mod Readings
 pub mod Withdrawals
@@ -19,6 +18,9 @@ pub mod FiveSlots
 pub mod Gap
 pub mod Node1
 pub mod Worked
+pub mod Demand1
+pub mod Demand2
+pub mod Demand3
 pub mod FullLine
 pub mod Busy
 pub mod Runs

@@ -1,0 +1,26 @@
+-- `Demand2` of specs/Demand2.antt.
+use Rattle.promises.specs.Demand2.{Demand2}
+use Rattle.promises.proofs.NetworkStates.{network-states}
+use Rattle.promises.proofs.Service.{serves}
+use Rattle.promises.proofs.Replies.{answers}
+use Rattle.promises.proofs.Readings.{tells}
+use Rattle.promises.proofs.Positions.{positioned}
+use Rattle.promises.proofs.ErrorList.{error-list}
+use Rattle.promises.proofs.Effects.{served-rightly}
+use Rattle.promises.proofs.Resets.{save-and-reset}
+use Rattle.promises.proofs.Worked.{worked, printed}
+
+pub demand2 : Demand2
+demand2 =
+    record {
+      states = network-states;
+      resets = save-and-reset;
+      error-list = error-list;
+      tells = tells;
+      worked = worked;
+      printed = printed;
+      gets-what-is-due = serves;
+      answers = answers;
+      served-rightly = served-rightly;
+      positioned = positioned;
+    }

@@ -1,0 +1,34 @@
+-- Demand 2, in the customer's words: "The head behaves as CiA 301 and CiA 406 require in the form 01 gives them. Each service request that 01 has the head
+-- serve gets the value, the confirmation or the abort code that is due. An accepted write has exactly the effects named for it, an aborted write
+-- alters no entry, and a position is the exact result of scaling, direction, preset and range."
+use mathlib.Core.List.{List}
+use Rattle.parts.specs.declared.Head.{Head}
+use Rattle.parts.specs.declared.Sensor.the-variants.{Missing}
+use Rattle.promises.specs.Calls.{Call}
+use Rattle.promises.specs.Histories.{after, PowerUp, powered, Reachable}
+use Rattle.promises.specs.NetworkStates.{NetworkStates}
+use Rattle.promises.specs.Service.{Serves, Answers}
+use Rattle.promises.specs.Readings.{Tells, lastSample, Positioned}
+use Rattle.promises.specs.Effects.{ServedRightly}
+use Rattle.promises.specs.Resets.{Resets}
+use Rattle.promises.specs.ErrorList.{ErrorList}
+use Rattle.promises.specs.Worked.{Worked, Printed}
+
+pub record Demand2 : Type 0 where
+  -- The head behaves as CiA 301 and CiA 406 require in the form 01 gives them: its states; save, load and the two resets;
+  pub states : NetworkStates
+  pub resets : Resets
+  -- 1003h counts good-to-missing changes since the list was emptied, at most 4; 6004h is blank exactly while missing, 1001h and 6503h say so;
+  pub error-list : (p : PowerUp) (cs : List Call) → ErrorList p cs
+  pub tells : (p : PowerUp) (cs : List Call) → Tells (after (powered p) cs) (lastSample Missing cs)
+  -- P1 to P12, and the session that 01 prints.
+  pub worked : Worked
+  pub printed : Printed
+  -- Each service request that 01 has the head serve gets the value, the confirmation or the abort code that is due,
+  pub gets-what-is-due : (h : Head) → Reachable h → Serves h
+  -- over any sequence of calls.
+  pub answers : (p : PowerUp) (cs : List Call) → Answers p cs
+  -- An accepted write has exactly the effects named for it, an aborted write alters no entry,
+  pub served-rightly : ServedRightly
+  -- and a position is the exact result of scaling, direction, preset and range.
+  pub positioned : (h : Head) → Reachable h → Positioned h
