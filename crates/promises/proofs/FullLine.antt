@@ -31,5 +31,6 @@ full-line =
       unasked-line = refl;
       switches-off = (refl, refl);
       beats-no-more = refl;
+      speaks = (refl, refl);
       silenced = refl;
     }

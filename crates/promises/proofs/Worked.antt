@@ -9,21 +9,7 @@ use Rattle.promises.specs.Worked.{Worked, Printed}
 
 pub worked : Worked
 unfolding entries table lookup shownAt written due act settledTo
-worked =
-    record {
-      p1 = refl;
-      p2 = refl;
-      p3 = refl;
-      p4 = refl;
-      p5 = refl;
-      p6 = refl;
-      p7 = refl;
-      p8 = refl;
-      p9 = (refl, refl);
-      p10 = (refl, refl);
-      p11 = refl;
-      p12 = (refl, refl);
-    }
+worked = refl
 
 pub printed : Printed
 unfolding entries table lookup shownAt written due act settledTo

@@ -71,7 +71,7 @@ pub record FiveSlots : Type 0 where
   -- What one of the list takes no longer waits, nor does it join again in the same call; and so what is sent.
   pub withdrawn : (h : Head) → Reachable h → (c : Call) (k : Kind) → Withdrawal h c k → waits (step h c) k ≡ false
   pub sent : (h : Head) → Reachable h → (c : Call) (k : Kind) → Sends h c k → waits (step h c) k ≡ false
-  -- Five kinds can wait: ..; each at most once. And each only while it may.
+  -- Five kinds can wait: ..; each at most once; and each only under 01's condition for it.
   pub once : (h : Head) → Reachable h → Kinds places (waiting (h .line))
   pub only-while : (h : Head) → Reachable h → (k : Kind) → waits h k ≡ true → may (h .core) k ≡ true
   pub lines-up : (h : Head) → Reachable h → (c : Call) → Lined h c

@@ -12,7 +12,7 @@ use Rattle.promises.specs.WaitingLine.{frame}
 use Rattle.promises.specs.Calls.{Call, tick, sample, slot, step}
 use Rattle.promises.specs.Histories.{after, slots, sent, Reachable}
 use Rattle.promises.specs.Node1.{node1, request, asks, writes, command, sync}
-use Rattle.promises.specs.Worked.{missing, inverted}
+use Rattle.promises.specs.Worked.{missing, at, inverted}
 
 -- missing told, inverted, 1017h = 1; then the reading is good, Operational is entered and a SYNC comes
 abbrev pub begun : List Call
@@ -74,4 +74,8 @@ pub record FullLine : Type 0 where
   pub switches-off : Takes unasked (request (bytes 0x23 0x00 0x18 0x01 0x81 0x01 0x00 0x80)) (emergency ∷ tpdo2 ∷ heartbeat ∷ sdoReply ∷ [])
       × Takes unasked (request (bytes 0x23 0x01 0x18 0x01 0x81 0x02 0x00 0x80)) (emergency ∷ tpdo1 ∷ heartbeat ∷ sdoReply ∷ [])
   pub beats-no-more : Takes unasked (request (bytes 0x2B 0x17 0x10 0x00 0 0 0 0)) (emergency ∷ tpdo1 ∷ tpdo2 ∷ sdoReply ∷ [])
+  -- and the emergency joins by a write of 1014h, ahead of its reply: switched off, missing, switched on
+  pub speaks : Waits (after node1 (at 7 ++ writes (bytes 0x23 0x14 0x10 0x00 0x81 0x00 0x00 0x80) ++ sample Missing ∷ [])) []
+      × Waits (after node1 (at 7 ++ writes (bytes 0x23 0x14 0x10 0x00 0x81 0x00 0x00 0x80) ++ sample Missing ∷ request (bytes 0x23 0x14 0x10 0x00 0x81 0 0 0) ∷ []))
+      (emergency ∷ sdoReply ∷ [])
   pub silenced : Takes unasked (request (bytes 0x23 0x14 0x10 0x00 0x81 0x00 0x00 0x80)) (tpdo1 ∷ tpdo2 ∷ heartbeat ∷ sdoReply ∷ [])

@@ -24,9 +24,11 @@ toNode1 b = dataFrame 0x601 8 b
 abbrev pub request : List ℕ → Call
 request b = receive (toNode1 b)
 
--- a read of 6004h
+abbrev pub read6004 : List ℕ
+read6004 = bytes 0x40 0x04 0x60 0x00 0 0 0 0
+
 abbrev pub asks : Call
-asks = request (bytes 0x40 0x04 0x60 0x00 0 0 0 0)
+asks = request read6004
 
 -- a write, and its reply sent
 abbrev pub writes : List ℕ → List Call

@@ -113,5 +113,5 @@ pub record Positioned (h : Head) : Type 0 where
   pub presets : (f : Received) (v : ℕ) → Writes h f 0x6003_00 v → readsIn (received h f .head) 0x6004 0 ≡ some (Number v)
   -- and goes on reading it until a call alters it
   pub stays : (cs : List Call) → Unmoved h cs → readsIn (after h cs) 0x6004 0 ≡ readsIn h 0x6004 0
-  -- The frame carries the position at the slot. No other frame has an identifier in 181h..57Fh.
+  -- The frame carries the position at the slot: every frame with an identifier in 181h..57Fh does.
   pub carries : slotted h .waited ≡ true → within 0x181 0x57F (slotted h .frame .identifier) ≡ true → Carries h (slotted h .frame)

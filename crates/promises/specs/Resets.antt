@@ -30,16 +30,16 @@ use Rattle.promises.specs.Worked.{missing}
 use Rattle.promises.specs.Effects.{readBack, writing}
 use Rattle.promises.specs.Readings.{readsIn}
 
--- below 2000h; 6200-0 is 1800-5 under a second index
-abbrev pub below2000 : ℕ → Bool
-below2000 i = ltb i 0x2000 || eqb i 0x6200
+-- the indices below 2000h; 6200-0 is 1800-5 under a second index
+abbrev pub restoredBy82 : ℕ → Bool
+restoredBy82 i = ltb i 0x2000 || eqb i 0x6200
 
 -- The settings of which an entry of index i reads after a reset.
 abbrev pub settingsFor : Reset → Device → ℕ → Settings
 -- 81h sets all settings to the saved set;
 settingsFor ofNode d i = d .saved
 -- 82h only those below 2000h.
-settingsFor ofCommunication d i = cond (below2000 i) (d .saved) (d .settings)
+settingsFor ofCommunication d i = cond (restoredBy82 i) (d .saved) (d .settings)
 
 -- 81h sets all settings to the saved set; 82h only those below 2000h. Both enter Initialising, .. end any inhibit time and forget what was
 -- announced ("good" counts as announced). Reading and error list stay.

@@ -8,10 +8,10 @@ use Rattle.dictionary.specs.declared.read.Shown.the-variants.{Blank, Number}
 use Rattle.cases.specs.Tests.{within}
 use Rattle.sdo.specs.Worked.{bytes}
 use Rattle.parts.specs.declared.Sensor.the-variants.{Missing, Raw}
-use Rattle.promises.specs.Calls.{Call, sample, slot, slotted}
+use Rattle.promises.specs.Calls.{Call, sample, slot, slotted, tick}
 use Rattle.promises.specs.Meant.{Requests, Writes}
 use Rattle.promises.specs.Histories.{after}
-use Rattle.promises.specs.Node1.{node1, toNode1, request, command}
+use Rattle.promises.specs.Node1.{node1, toNode1, request, writes, command}
 use Rattle.promises.specs.Worked.{answer, sends, at}
 use Rattle.promises.specs.Service.{sendsReply, owed}
 use Rattle.promises.specs.Readings.{readsIn, Unmoved}
@@ -53,8 +53,9 @@ to40 = bytes 0x23 0x03 0x60 0x00 0x28 0 0 0
 pub record Positioning : Type 0 where
   pub blank-at-first : readsIn node1 0x6004 0 ≡ some Blank
   pub presets : Writes (after node1 ready) (toNode1 to40) 0x6003_00 40
-  pub unmoved : Unmoved (after node1 (ready ++ request to40 ∷ [])) (slot ∷ [])
-  pub reads-preset : readsIn (after node1 (ready ++ request to40 ∷ slot ∷ [])) 0x6004 0 ≡ some (Number 40)
+  -- a tick, a sample that is refused, and the slot that sends the reply
+  pub unmoved : Unmoved (after node1 (ready ++ request to40 ∷ [])) (tick ∷ sample (Raw 1048576) ∷ slot ∷ [])
+  pub reads-preset : readsIn (after node1 (ready ++ request to40 ∷ tick ∷ sample (Raw 1048576) ∷ slot ∷ [])) 0x6004 0 ≡ some (Number 40)
   pub waits : slotted (after node1 (ready ++ command 0x01 ∷ [])) .waited ≡ true
   pub shows : within 0x181 0x57F (slotted (after node1 (ready ++ command 0x01 ∷ [])) .frame .identifier) ≡ true
 
@@ -75,4 +76,24 @@ pub record Losing : Type 0 where
   pub empties : Writes (after node1 five) (toNode1 (bytes 0x2F 0x03 0x10 0x00 0 0 0 0)) 0x1003_00 0
   pub one-lost : losses node1 Missing 0 (five ++ emptied ++ loss) ≡ 1
   pub one-read : readsIn (after node1 (five ++ emptied ++ loss)) 0x1003 0 ≡ some (Number 1)
+  -- a reset keeps the list
+  pub kept : readsIn (after node1 (five ++ command 0x81 ∷ [])) 0x1003 0 ≡ some (Number 4)
   pub second-blank : readsIn (after node1 (five ++ emptied ++ loss)) 0x1003 2 ≡ some Blank
+
+-- At 100 the position is set to 40 and saved; then 6000h = 8, and 1017h = 1,000.
+abbrev pub saved : List Call
+saved = at 100 ++ writes to40 ++ writes (bytes 0x23 0x10 0x10 0x01 0x73 0x61 0x76 0x65)
+
+abbrev pub changed : List Call
+changed = saved ++ writes (bytes 0x2B 0x00 0x60 0x00 0x08 0x00 0 0) ++ writes (bytes 0x2B 0x17 0x10 0x00 0xE8 0x03 0 0)
+
+pub record Restoring : Type 0 where
+  -- 6509h: −60 is FFFF FFC4h
+  pub saves : readsIn (after node1 saved) 0x6509 0 ≡ some (Number 0xFFFFFFC4)
+  pub changes : (readsIn (after node1 changed) 0x6509 0 ≡ some (Number 0)) × (readsIn (after node1 changed) 0x1017 0 ≡ some (Number 1000))
+  -- 81h sets all settings to the saved set, the offset too
+  pub all : (readsIn (after node1 (changed ++ command 0x81 ∷ [])) 0x6509 0 ≡ some (Number 0xFFFFFFC4))
+      × (readsIn (after node1 (changed ++ command 0x81 ∷ [])) 0x1017 0 ≡ some (Number 0))
+  -- 82h only those below 2000h
+  pub below : (readsIn (after node1 (changed ++ command 0x82 ∷ [])) 0x6000 0 ≡ some (Number 8))
+      × (readsIn (after node1 (changed ++ command 0x82 ∷ [])) 0x1017 0 ≡ some (Number 0))
