@@ -30,6 +30,11 @@ pub mod Inhibit
 pub mod Relief
 pub mod Hidden
 pub mod Gap
+pub mod Remainders
+pub mod Tested
+pub mod Beats
+pub mod Clocked
+pub mod Moments
 pub mod Worked
 pub mod FullLine
 pub mod Busy

@@ -12,6 +12,7 @@ pub mod Withdrawals
 pub mod FiveSlots
 pub mod Laws
 pub mod Gap
+pub mod Moments
 pub mod Worked
 pub mod FullLine
 pub mod Busy

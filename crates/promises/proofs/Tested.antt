@@ -1,0 +1,182 @@
+-- What specs/Moments.antt tests of a call, by what the call means.
+use Prim.Native.Nat.{ℕ, _+_}
+use lib.Dec.{eqb, leb, ltb}
+use mathlib.Core.Path.{_≡_, refl, sym, ap, _∙_}
+use mathlib.Core.Logic.{_↔_}
+use mathlib.Core.Bool.{Bool, true, false, not, _&&_, _||_}
+use mathlib.Core.List.{List}
+use borrow.Author.Tests.{eqb-true, eq-eqb, ne-eqb, leb-true, le-leb, not-true}
+use native.Mathlib.Omega.{arith}
+use Rattle.cases.proofs.Cases.{by, test, both, true-false}
+use Rattle.can.specs.declared.Received.{Received}
+use Rattle.can.specs.Frame.{refusalOf}
+use Rattle.sdo.specs.declared.reply.Effect.{Effect}
+use Rattle.sdo.specs.declared.reply.Effect.the-variants.{Nothing, Reply, Write}
+use Rattle.sdo.specs.Service.{Due, none, value, confirmation, abort, answer}
+use Rattle.waiting.specs.Line.{first}
+use Rattle.parts.specs.declared.Head.{Head}
+use Rattle.parts.specs.declared.Sensor.the-variants.{Missing, Raw}
+use Rattle.promises.specs.States.{operational, isIn, isInitialising, isLive, node}
+use Rattle.promises.specs.WaitingLine.{sdoReply}
+use Rattle.promises.specs.Acts.{Act, nothing, enter, reset, boot, idle, send, take, lose, time, sync, serve}
+use Rattle.promises.specs.Calls.{Call, receive, tick, sample, slot, served, meant}
+use Rattle.promises.specs.Valid.{waits, Valid}
+use Rattle.promises.specs.Meant.{Heard, Requests, Synchronises, Writes, dueTo}
+use Rattle.promises.specs.Moments.{isHeard, isRequest, isSync, confirms, writesTo, synchronises, isTick}
+use Rattle.promises.proofs.States.{not-operational}
+use Rattle.promises.proofs.Causes.{Cause, cause, requests}
+
+-- what of an act counts: what it writes, whether it is a SYNC, whether it is a tick
+pub record Marks : Type 0 where
+  pub effect : Effect
+  pub syncs : Bool
+  pub times : Bool
+
+abbrev unmarked : Marks
+unmarked = record { effect = Nothing; syncs = false; times = false }
+
+abbrev pub marks : Act → Marks
+marks nothing = unmarked
+marks (enter g) = unmarked
+marks (reset r) = unmarked
+marks boot = unmarked
+marks idle = unmarked
+marks (send k) = unmarked
+marks (take r) = unmarked
+marks lose = unmarked
+marks time = record { effect = Nothing; syncs = false; times = true }
+marks sync = record { effect = Nothing; syncs = true; times = false }
+marks (serve s) = record { effect = s .effect; syncs = false; times = false }
+
+abbrev pub effectTo : (ℕ → Bool) → Effect → Bool
+effectTo t Nothing = false
+effectTo t Reply = false
+effectTo t (Write k v) = t k
+
+module _ (h : Head) (f : Received) where
+  heard-as : isHeard h f ≡ true → Heard h f
+  heard-as e =
+      let u = both (eqb (refusalOf f) 0) (not (f .extended || f .remote || isInitialising (h .core))) e in
+      record { unrefused = eqb-true _ _ (u .0); heard = not-true _ (u .1) }
+
+  pub is-request : (isRequest h f ≡ true) ↔ Requests h f
+  is-request = (as-record, λ r. rw (eq-eqb _ _ (r .hears .unrefused), r .hears .heard, eq-eqb _ _ (r .identifier), eq-eqb _ _ (r .length), r .live, r .free))
+    where
+      as-record : isRequest h f ≡ true → Requests h f
+      as-record e =
+          let i = eqb (f .identifier) (0x600 + node (h .core)) in
+          let l = eqb (f .length) 8 in
+          let a = both (isHeard h f && i && l && isLive (h .core)) (not (waits h sdoReply)) e in
+          let b = both (isHeard h f && i && l) (isLive (h .core)) (a .0) in
+          let c = both (isHeard h f && i) l (b .0) in
+          let d = both (isHeard h f) i (c .0) in
+          record {
+            hears = heard-as (d .0);
+            identifier = eqb-true _ _ (d .1);
+            length = eqb-true (f .length) 8 (c .1);
+            live = b .1;
+            free = not-true _ (a .1);
+          }
+
+  pub is-sync : (isSync h f ≡ true) ↔ Synchronises h f
+  is-sync = (as-record, λ s. rw (eq-eqb _ _ (s .hears .unrefused), s .hears .heard, eq-eqb _ _ (s .identifier), le-leb (f .length) 1 (s .length), s .operational))
+    where
+      as-record : isSync h f ≡ true → Synchronises h f
+      as-record e =
+          let i = eqb (f .identifier) 0x080 in
+          let l = leb (f .length) 1 in
+          let a = both (isHeard h f && i && l) (isIn operational (h .core)) e in
+          let b = both (isHeard h f && i) l (a .0) in
+          let c = both (isHeard h f) i (b .0) in
+          record { hears = heard-as (c .0); identifier = eqb-true _ _ (c .1); length = leb-true (f .length) 1 (b .1); operational = a .1 }
+
+  pub synchronised : Synchronises h f → meant h (receive f) ≡ sync
+  synchronised s =
+      rw (
+        eq-eqb _ _ (s .hears .unrefused),
+        s .hears .heard,
+        ne-eqb (f .identifier) 0x000 (λ e. omega (arith, e, s .identifier)),
+        eq-eqb (f .identifier) 0x080 (s .identifier),
+        le-leb (f .length) 1 (s .length),
+        s .operational,
+      )
+
+-- what is due to a request, and the act
+due-to : (t : ℕ → Bool) (f : List ℕ) (y : Due) → confirms t y ≡ effectTo t (marks (served (answer f y)) .effect)
+due-to t f none = refl
+due-to t f (value w n) = refl
+due-to t f (confirmation k v) = refl
+due-to t f (abort code) = refl
+
+confirmed-by : (t : ℕ → Bool) (y : Due) → confirms t y ≡ true → (k : ℕ) × (v : ℕ) × (t k ≡ true) × (y ≡ confirmation k v)
+confirmed-by t none e = true-false (sym e)
+confirmed-by t (value w n) e = true-false (sym e)
+confirmed-by t (confirmation k v) e = (k, v, e, refl)
+confirmed-by t (abort code) e = true-false (sym e)
+
+pub is-written : (h : Head) (f : Received) (t : ℕ → Bool) → (writesTo t h (receive f) ≡ true) ↔ ((k : ℕ) × (v : ℕ) × (t k ≡ true) × Writes h f k v)
+is-written h f t = (as-write, λ w. rw (is-request h f .1 (w .3 .requests), w .3 .accepted) (w .2))
+  where
+    as-write : writesTo t h (receive f) ≡ true → (k : ℕ) × (v : ℕ) × (t k ≡ true) × Writes h f k v
+    as-write e =
+        let u = both (isRequest h f) (confirms t (dueTo h f)) e in
+        let d = confirmed-by t (dueTo h f) (u .1) in
+        (d .0, d .1, d .2, record { requests = is-request h f .0 (u .0); accepted = d .3 })
+
+-- what the tests say of a call, its act says
+pub record Tested (h : Head) (x : Call) (m : Marks) : Type 0 where
+  pub writes : (t : ℕ → Bool) → writesTo t h x ≡ effectTo t (m .effect)
+  pub syncs : synchronises h x ≡ m .syncs
+  pub beats : (isTick x && not (isInitialising (h .core))) ≡ m .times
+  pub ticks : (isTick x && isIn operational (h .core)) ≡ (m .times && isIn operational (h .core))
+
+-- What is known of a frame by its tests: none is a tick, one that is no request writes nothing, and one that is no SYNC is no SYNC.
+pub record Otherwise (h : Head) (f : Received) (m : Marks) : Type 0 where
+  pub unwritten : isRequest h f ≡ false → (t : ℕ → Bool) → effectTo t (m .effect) ≡ false
+  pub unsynced : isSync h f ≡ false → m .syncs ≡ false
+  pub untimed : m .times ≡ false
+
+module _ (h : Head) (v : Valid h) where
+  plain : (f : Received) → Otherwise h f unmarked
+  plain f = record { unwritten = λ _ _. refl; unsynced = λ _. refl; untimed = refl }
+
+  otherwise : (f : Received) (a : Act) → Cause h f a → Otherwise h f (marks a)
+  otherwise f nothing x = plain f
+  otherwise f (enter g) x = plain f
+  otherwise f (reset r) x = plain f
+  otherwise f boot x = absurd x
+  otherwise f idle x = absurd x
+  otherwise f (send k) x = absurd x
+  otherwise f (take r) x = absurd x
+  otherwise f lose x = absurd x
+  otherwise f time x = absurd x
+  otherwise f sync x = record { unwritten = λ _ _. refl; unsynced = λ n. true-false (sym (is-sync h f .1 x) ∙ n); untimed = refl }
+  otherwise f (serve s) x = record { unwritten = λ n _. true-false (sym (is-request h f .1 (x .0)) ∙ n); unsynced = λ _. refl; untimed = refl }
+
+  tested-frame : (f : Received) → Tested h (receive f) (marks (meant h (receive f)))
+  tested-frame f =
+      let o = otherwise f (meant h (receive f)) (cause h f v) in
+      let wrote : (ℕ → Bool) → Bool → Bool = λ t b. b && confirms t (dueTo h f) in
+      record {
+        writes = λ t. test (isRequest h f)
+            (λ e. ap (wrote t) e ∙ due-to t (f .bytes) (dueTo h f) ∙ ap (λ a. effectTo t (marks a .effect)) (sym (requests h f v (is-request h f .0 e))))
+            (λ e. ap (wrote t) e ∙ sym (o .unwritten e t));
+        syncs = test (isSync h f) (λ e. e ∙ ap (λ a. marks a .syncs) (sym (synchronised h f (is-sync h f .0 e)))) (λ e. e ∙ sym (o .unsynced e));
+        beats = sym (o .untimed);
+        ticks = ap (λ b. b && isIn operational (h .core)) (sym (o .untimed));
+      }
+
+  plain-call : (x : Call) → isTick x ≡ false → ((t : ℕ → Bool) → writesTo t h x ≡ false) → synchronises h x ≡ false → Tested h x unmarked
+  plain-call x n w s = record { writes = w; syncs = s; beats = ap (λ b. b && not (isInitialising (h .core))) n; ticks = ap (λ b. b && isIn operational (h .core)) n }
+
+  pub tested : (x : Call) → Tested h x (marks (meant h x))
+  tested (receive f) = tested-frame f
+  tested tick =
+      by (λ a. Tested h tick (marks a)) (isInitialising (h .core))
+      (λ i. record { writes = λ _. refl; syncs = refl; beats = ap not i; ticks = not-operational (h .core) i })
+      (λ i. record { writes = λ _. refl; syncs = refl; beats = ap not i; ticks = refl })
+  tested (sample Missing) = plain-call _ refl (λ _. refl) refl
+  tested (sample (Raw r)) = by (λ a. Tested h (sample (Raw r)) (marks a)) (ltb 1048575 r) (λ _. plain-call _ refl (λ _. refl) refl) (λ _. plain-call _ refl (λ _. refl) refl)
+  tested slot =
+      by (λ a. Tested h slot (marks a)) (isInitialising (h .core)) (λ _. plain-call _ refl (λ _. refl) refl)
+      (λ _. by (λ a. Tested h slot (marks a)) (eqb (first (h .line)) 0) (λ _. plain-call _ refl (λ _. refl) refl) (λ _. plain-call _ refl (λ _. refl) refl))
