@@ -16,3 +16,4 @@ pub mod Moments
 pub mod Worked
 pub mod FullLine
 pub mod Busy
+pub mod Joining
