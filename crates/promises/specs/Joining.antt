@@ -27,12 +27,22 @@ Leave before cs ls = lines (after node1 before) cs ≡ ls
 abbrev pub every3 : List Call
 every3 = writes (bytes 0x2B 0x17 0x10 0x00 3 0 0 0)
 
--- 1800-5 = 3; 6200h = 3
+-- 1800-5 = e; 6200h = 3
+abbrev pub event : ℕ → List Call
+event e = writes (bytes 0x2B 0x00 0x18 0x05 e 0 0 0)
+
 abbrev pub event3 : List Call
-event3 = writes (bytes 0x2B 0x00 0x18 0x05 3 0 0 0)
+event3 = event 3
 
 abbrev pub event3Again : List Call
 event3Again = writes (bytes 0x2B 0x00 0x62 0x00 3 0 0 0)
+
+-- 1800-1 = 8000 0181h and 181h: TPDO1 off and on
+abbrev pub off1 : List Call
+off1 = writes (bytes 0x23 0x00 0x18 0x01 0x81 0x01 0x00 0x80)
+
+abbrev pub on1 : List Call
+on1 = writes (bytes 0x23 0x00 0x18 0x01 0x81 0x01 0 0)
 
 -- 1801-1 = 8000 0281h and 281h: TPDO2 off and on
 abbrev pub off2 : List Call
@@ -41,9 +51,9 @@ off2 = writes (bytes 0x23 0x01 0x18 0x01 0x81 0x02 0x00 0x80)
 abbrev pub on2 : List Call
 on2 = writes (bytes 0x23 0x01 0x18 0x01 0x81 0x02 0 0)
 
--- 1801-2 = 2, for which it has to be off
+-- 1801-2 = 2, for which it has to be off; 1801-5 = 1
 abbrev pub second : List Call
-second = off2 ++ writes (bytes 0x2F 0x01 0x18 0x02 2 0 0 0) ++ on2
+second = off2 ++ writes (bytes 0x2F 0x01 0x18 0x02 2 0 0 0) ++ on2 ++ writes (bytes 0x2B 0x01 0x18 0x05 1 0 0 0)
 
 -- boot-up, a good sample: "good" counts as announced
 abbrev pub good : List Call
@@ -69,6 +79,11 @@ pub record Joining : Type 0 where
   pub enters-again : Leave (good ++ event3 ++ operating) (tick ∷ tick ∷ command 0x80 ∷ tick ∷ command 0x01 ∷ slot ∷ tick ∷ tick ∷ tick ∷ [])
       ([] ∷ [] ∷ [] ∷ [] ∷ (tpdo1 ∷ []) ∷ [] ∷ [] ∷ [] ∷ (tpdo1 ∷ []) ∷ [])
   pub elapses-anew : Leave (good ++ event3 ++ operating ++ tick ∷ tick ∷ event3Again) (tick ∷ tick ∷ tick ∷ []) ([] ∷ [] ∷ (tpdo1 ∷ []) ∷ [])
+  -- from switching on anew, by which it does not join, nor while it is off
+  pub elapses-switched : Leave (good ++ event3 ++ operating ++ tick ∷ off1) (tick ∷ tick ∷ on1 ++ tick ∷ tick ∷ tick ∷ [])
+      ([] ∷ [] ∷ (sdoReply ∷ []) ∷ [] ∷ [] ∷ [] ∷ (tpdo1 ∷ []) ∷ [])
+  -- with 1800-5 = 0 at no tick
+  pub never-elapses : Leave (good ++ event 0 ++ operating) (tick ∷ tick ∷ []) ([] ∷ [] ∷ [])
   pub counted-ticks : since (ticksAnew one) tickCounts node1 (good ++ tick ∷ event3 ++ operating ++ tick ∷ tick ∷ []) 0 ≡ 2
   -- A due moment with a missing reading is passed over: the third tick; the sixth is the next.
   pub passed-over : Leave (good ++ event3 ++ operating) (tick ∷ tick ∷ sample Missing ∷ tick ∷ sample (Raw 7) ∷ tick ∷ tick ∷ tick ∷ [])
