@@ -84,7 +84,7 @@ module _ (n : ℕ) (last : Option Frame) (c : Core) (q : node c ≡ n) (v : Vali
   announced-act : (atSlot : Bool) (a : Act) → Fits atSlot c a → Fresh c → ((k : Kind) → a ≡ send k → may c k ≡ true)
       → Announced n (lastAfter n last (framed (frameBy c a))) (acted c a)
   announced-act b nothing f g w = s
-  announced-act b (enter o) f g w = λ _. s (f .0)
+  announced-act b (enter o) f g w = λ _. s f
   announced-act b (reset r) f g w = λ e. true-false e
   announced-act b boot f g w = λ _. rw (known-boot-up n c q v .boot-up, g f .0) unsaid
   announced-act b idle f g w = s

@@ -22,7 +22,7 @@ use Rattle.promises.proofs.Hearing.{heard-by, booted}
 
 abbrev pub Fits : Bool → Core → Act → Type 0
 Fits atSlot c nothing = atSlot ≡ false
-Fits atSlot c (enter g) = (isInitialising c ≡ false) × (isIn g c ≡ false)
+Fits atSlot c (enter g) = isInitialising c ≡ false
 Fits atSlot c (reset r) = isInitialising c ≡ false
 Fits atSlot c boot = isInitialising c ≡ true
 Fits atSlot c idle = isInitialising c ≡ false
@@ -43,7 +43,7 @@ module _ (h : Head) where
 
   fits-command : (x : Command) → isInitialising c ≡ false → Here (commanded c x)
   fits-command noCommand i = refl
-  fits-command (toEnter g) i = by Here (isIn g c) (λ _. refl) (λ n. (i, n))
+  fits-command (toEnter g) i = by Here (isIn g c) (λ _. refl) (λ _. i)
   fits-command (toReset r) i = i
 
   fits-sync : (length : ℕ) → Here (synchronised c length)

@@ -36,12 +36,11 @@ use Rattle.promises.proofs.Waits.{sends, waits-act}
 use Rattle.promises.proofs.States.{not-operational}
 use Rattle.promises.proofs.Valid.{valid-step}
 use Rattle.promises.proofs.Unmeant.{unmeant}
-use Rattle.promises.proofs.Meant.{commands}
 use Rattle.promises.proofs.Causes.{Cause, cause, requests}
 use Rattle.promises.proofs.Conditions.{Alerts, alerts as alerts-so, shows}
 use Rattle.promises.proofs.Histories.{valid-after, valid-powered}
 use Rattle.promises.proofs.Remainders.{its-turn, in-turn}
-use Rattle.promises.proofs.Tested.{is-written, is-sync, synchronised}
+use Rattle.promises.proofs.Tested.{is-written, is-entry, is-sync, entered, synchronised}
 use Rattle.promises.proofs.Beats.{Beats, beats-step}
 use Rattle.promises.proofs.Clocked.{Ticks, Syncs, ticks-step, syncs-step}
 
@@ -124,8 +123,7 @@ module _ (h : Head) (n : Counts) (v : Valid h) (kept : Kept (h .core) n) where
       let m : meant h tick ≡ time = rw i in
       joined tick heartbeat m (in-turn _ _ _ (kept .beats i) e) (rw (i, ne-eqb (communication c .heartbeat) 0 (λ z. omega (arith, z, e .some))))
   joins (receive f) (tpdo w) (enters m o r t) =
-      let a : meant h (receive f) ≡ enter operational = commands h f m ∙ rw o in
-      joined (receive f) (tpdo w) a (flag-entry (communication c) operational w ∙ rw (on-events (pdoOf h w) t)) (rw (r .is-on, r .is-good))
+      joined (receive f) (tpdo w) (entered h f (m, o)) (flag-entry (communication c) operational w ∙ rw (on-events (pdoOf h w) t)) (rw (r .is-on, r .is-good))
   joins tick (tpdo w) (elapses o r t e) =
       let m : meant h tick ≡ time = rw (started o) in
       joined tick (tpdo w) m (flag-time (communication c) (c .timers) w ∙ rw (on-events (pdoOf h w) t) (in-turn _ _ _ (kept .ticks w o) e)) (ready-may w o r)
@@ -247,5 +245,6 @@ moments-so p cs =
       joins = joins h (countsAfter p cs) v (counts-kept p cs);
       only-then = only-then h (countsAfter p cs) v (counts-kept p cs);
       written = is-written h;
+      entered = is-entry h;
       synchronised = is-sync h;
     }

@@ -1,5 +1,5 @@
--- When a kind begins to wait: 01's moments, of every list of calls from power-up. Ticks and SYNCs are counted by the calls, from what 01 counts them
--- from; the head's own timers are not read. Chapter "The waiting line".
+-- When a kind begins to wait: 01's moments, of every list of calls from power-up. Ticks and SYNCs are counted by the calls, from the call that 01 counts
+-- them from; the head's own timers are not read. Chapter "The waiting line".
 use Prim.Native.Nat.{ℕ, suc, _+_, _%_, _<_, _≤_}
 use lib.Dec.{eqb, leb}
 use mathlib.Core.Path.{_≡_}
@@ -13,14 +13,15 @@ use Rattle.dictionary.specs.Accepted.{on}
 use Rattle.sdo.specs.Request.{aborting}
 use Rattle.sdo.specs.Service.{Due, none, value, confirmation, abort}
 use Rattle.parts.specs.declared.Head.{Head}
-use Rattle.promises.specs.States.{operational, isIn, isInitialising, isLive, node, communication, good, Which, one, two, pdo, toEnter}
+use Rattle.promises.specs.States.{operational, stopped, preOperational, isIn, isInitialising, isLive, node, communication, good, Which, one, two, pdo, Command, noCommand, toEnter, toReset, commandOf}
 use Rattle.promises.specs.WaitingLine.{Kind, emergency, sdoReply, heartbeat, tpdo}
-use Rattle.promises.specs.Calls.{Call, receive, tick, sample, slot, step}
+use Rattle.promises.specs.Calls.{Call, receive, tick, sample, slot, isSlot, step}
 use Rattle.promises.specs.Valid.{waits}
 use Rattle.promises.specs.Meant.{Commands, Requests, Synchronises, Writes, dueTo}
 use Rattle.promises.specs.Histories.{after, PowerUp, powered}
+use Rattle.promises.specs.Withdrawals.{identifierKey}
 
--- `Heard`, `Requests` and `Synchronises` as tests
+-- `Heard`, `Requests`, `Synchronises` and the command that enters Operational, as tests
 abbrev pub isHeard : Head → Received → Bool
 isHeard h f = eqb (refusalOf f) 0 && not (f .extended || f .remote || isInitialising (h .core))
 
@@ -35,25 +36,38 @@ isRequest h f =
 abbrev pub isSync : Head → Received → Bool
 isSync h f = isHeard h f && eqb (f .identifier) 0x080 && leb (f .length) 1 && isIn operational (h .core)
 
--- the confirmation of a write to an entry whose key passes a test
-abbrev pub confirms : (ℕ → Bool) → Due → Bool
+abbrev pub saysOperational : Command → Bool
+saysOperational noCommand = false
+saysOperational (toEnter operational) = true
+saysOperational (toEnter stopped) = false
+saysOperational (toEnter preOperational) = false
+saysOperational (toReset r) = false
+
+abbrev pub isEntry : Head → Received → Bool
+isEntry h f = isHeard h f && eqb (f .identifier) 0x000 && saysOperational (commandOf (node (h .core)) f) && not (isIn operational (h .core))
+
+-- the confirmation of a write whose key and value pass a test
+abbrev pub confirms : (ℕ → ℕ → Bool) → Due → Bool
 confirms t none = false
 confirms t (value w n) = false
-confirms t (confirmation k v) = t k
+confirms t (confirmation k v) = t k v
 confirms t (abort code) = false
 
--- an accepted write to such an entry
-abbrev pub writesTo : (ℕ → Bool) → Head → Call → Bool
-writesTo t h (receive f) = isRequest h f && confirms t (dueTo h f)
-writesTo t h tick = false
-writesTo t h (sample s) = false
-writesTo t h slot = false
+-- a frame received that passes a test
+abbrev pub receives : (Received → Bool) → Call → Bool
+receives t (receive f) = t f
+receives t tick = false
+receives t (sample s) = false
+receives t slot = false
+
+abbrev pub writes : (ℕ → ℕ → Bool) → Head → Call → Bool
+writes t h = receives (λ f. isRequest h f && confirms t (dueTo h f))
 
 abbrev pub synchronises : Head → Call → Bool
-synchronises h (receive f) = isSync h f
-synchronises h tick = false
-synchronises h (sample s) = false
-synchronises h slot = false
+synchronises h = receives (isSync h)
+
+abbrev pub entersOperational : Head → Call → Bool
+entersOperational h = receives (isEntry h)
 
 abbrev pub isTick : Call → Bool
 isTick (receive f) = false
@@ -71,10 +85,13 @@ since anew counts h (c ∷ cs) n = since anew counts (step h c) cs (countBy anew
 
 -- Heartbeat: .. counted from its write or from entry to Pre-operational after boot-up.
 abbrev pub boots : Head → Call → Bool
-boots h c = isInitialising (h .core) && not (isInitialising (step h c .core))
+boots h c = isSlot c && isInitialising (h .core)
+
+abbrev pub isPeriod : ℕ → ℕ → Bool
+isPeriod k v = eqb k 0x1017_00
 
 abbrev pub beatsAnew : Head → Call → Bool
-beatsAnew h c = boots h c || writesTo (λ k. eqb k 0x1017_00) h c
+beatsAnew h c = boots h c || writes isPeriod h c
 
 -- In Initialising .. timers stand.
 abbrev pub beatCounts : Head → Call → Bool
@@ -84,19 +101,19 @@ beatCounts h c = isTick c && not (isInitialising (h .core))
 abbrev pub pdoOf : Head → Which → Pdo
 pdoOf h w = pdo (communication (h .core)) w
 
-abbrev pub entersOperational : Head → Call → Bool
-entersOperational h c = not (isIn operational (h .core)) && isIn operational (step h c .core)
+abbrev pub isSwitch : Which → ℕ → ℕ → Bool
+isSwitch w k v = eqb k (identifierKey w) && on v
 
 abbrev pub switchesOn : Which → Head → Call → Bool
-switchesOn w h c = not (on (pdoOf h w .identifier)) && on (pdoOf (step h c) w .identifier)
+switchesOn w h c = writes (isSwitch w) h c && not (on (pdoOf h w .identifier))
 
 -- 1800-5, and 6200-0: 1800-5 under a second index; 1801-5
-abbrev pub isSub5 : Which → ℕ → Bool
-isSub5 one k = eqb k 0x1800_05 || eqb k 0x6200_00
-isSub5 two k = eqb k 0x1801_05
+abbrev pub isSub5 : Which → ℕ → ℕ → Bool
+isSub5 one k v = eqb k 0x1800_05 || eqb k 0x6200_00
+isSub5 two k v = eqb k 0x1801_05
 
 abbrev pub ticksAnew : Which → Head → Call → Bool
-ticksAnew w h c = entersOperational h c || switchesOn w h c || writesTo (isSub5 w) h c
+ticksAnew w h c = entersOperational h c || switchesOn w h c || writes (isSub5 w) h c
 
 -- Only when Operational .. may it join: its ticks count in Operational only.
 abbrev pub tickCounts : Head → Call → Bool
@@ -167,6 +184,9 @@ pub record Moments (p : PowerUp) (cs : List Call) : Type 0 where
   pub joins : let h = after (powered p) cs in (c : Call) (k : Kind) → Begins h (countsAfter p cs) c k → waits (step h c) k ≡ true
   -- and nothing else begins to wait.
   pub only-then : let h = after (powered p) cs in (c : Call) (k : Kind) → waits h k ≡ false → waits (step h c) k ≡ true → Begins h (countsAfter p cs) c k
-  -- The tests find an accepted write, and a SYNC.
-  pub written : let h = after (powered p) cs in (f : Received) (t : ℕ → Bool) → (writesTo t h (receive f) ≡ true) ↔ ((k : ℕ) × (v : ℕ) × (t k ≡ true) × Writes h f k v)
+  -- The tests find an accepted write, the command that enters Operational, and a SYNC.
+  pub written : let h = after (powered p) cs in (f : Received) (t : ℕ → ℕ → Bool)
+      → (writes t h (receive f) ≡ true) ↔ ((k : ℕ) × (v : ℕ) × (t k v ≡ true) × Writes h f k v)
+  pub entered : let h = after (powered p) cs in (f : Received)
+      → (entersOperational h (receive f) ≡ true) ↔ (Commands h f (toEnter operational) × (isIn operational (h .core) ≡ false))
   pub synchronised : let h = after (powered p) cs in (f : Received) → (synchronises h (receive f) ≡ true) ↔ Synchronises h f
