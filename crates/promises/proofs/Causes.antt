@@ -4,7 +4,7 @@ use native.Mathlib.Omega.{arith}
 use lib.Dec.{eqb, leb}
 use mathlib.Core.Path.{_≡_, refl, sym, _∙_}
 use mathlib.Core.Bool.{true, false, not, _&&_}
-use borrow.Author.Tests.{eqb-true, eq-eqb, ne-eqb, not-true}
+use borrow.Author.Tests.{eqb-true, eq-eqb, ne-eqb, leb-true, not-true}
 use Rattle.cases.proofs.Cases.{by, both}
 use Rattle.can.specs.declared.Received.{Received}
 use Rattle.sdo.specs.Reply.{replies}
@@ -18,7 +18,7 @@ use Rattle.promises.specs.WaitingLine.{sdoReply}
 use Rattle.promises.specs.Acts.{Act, nothing, enter, reset, boot, idle, send, take, lose, time, sync, serve}
 use Rattle.promises.specs.Calls.{receive, commanded, served, meant}
 use Rattle.promises.specs.Valid.{waits, Valid}
-use Rattle.promises.specs.Meant.{Heard, Commands, Requests, dueTo}
+use Rattle.promises.specs.Meant.{Heard, Commands, Requests, Synchronises, dueTo}
 use Rattle.promises.proofs.Hearing.{heard-by}
 
 -- Which frame it was; the acts that no frame means are none of these.
@@ -32,7 +32,7 @@ Cause h f (send k) = ⊥
 Cause h f (take r) = ⊥
 Cause h f lose = ⊥
 Cause h f time = ⊥
-Cause h f sync = (f .identifier ≡ 0x080) × (isIn operational (h .core) ≡ true)
+Cause h f sync = Synchronises h f
 Cause h f (serve s) = Requests h f × (s ≡ answer (f .bytes) (dueTo h f))
 
 module _ (h : Head) (f : Received) (v : Valid h) where
@@ -66,10 +66,15 @@ module _ (h : Head) (f : Received) (v : Valid h) where
       let w = both (eqb (f .length) 8) (isLive (h .core)) (u .0) in
       record { hears = x; identifier = i; length = eqb-true (f .length) 8 (w .0); live = w .1; free = sym reply-waits ∙ not-true _ (u .1) }
 
+  pub by-sync : (x : Heard h f) → f .identifier ≡ 0x080 → (leb (f .length) 1 && isIn operational (h .core)) ≡ true → Synchronises h f
+  by-sync x i t =
+      let u = both (leb (f .length) 1) (isIn operational (h .core)) t in
+      record { hears = x; identifier = i; length = leb-true (f .length) 1 (u .0); operational = u .1 }
+
   pub cause : Cause h f (meant h (receive f))
   cause =
       heard-by h f (Cause h f) tt (λ x i. by-command x i (commandOf (node (h .core)) f) refl)
-      (λ x i. by (Cause h f) (leb (f .length) 1 && isIn operational (h .core)) (λ t. (i, both (leb (f .length) 1) (isIn operational (h .core)) t .1)) (λ _. tt))
+      (λ x i. by (Cause h f) (leb (f .length) 1 && isIn operational (h .core)) (λ t. by-sync x i t) (λ _. tt))
       (λ x i. by (Cause h f) (eqb (f .length) 8 && isLive (h .core) && not (has line.sdoReply (h .line)))
       (λ t. by (Cause h f) (replies (answer (f .bytes) (dueTo h f) .effect)) (λ _. (by-request x i t, refl)) (λ _. tt))
       (λ _. tt))

@@ -27,9 +27,17 @@ restarted true switched n old count h = inl refl
 restarted false true n old count h = inl refl
 restarted false false n old count h = h
 
-was-on : (before after : Bool) → after ≡ true → (not before && after) ≡ false → before ≡ true
+pub was-on : (before after : Bool) → after ≡ true → (not before && after) ≡ false → before ≡ true
 was-on true after o e = refl
 was-on false after o e = true-false (sym o ∙ e)
+
+-- while a PDO is on its type cannot be written
+pub type-kept : (index : ℕ) (p : Pdo) (key n : ℕ) → pdoBarred index p key n ≡ false → on (p .identifier) ≡ true → eqb key (keyOf index 2) ≡ false
+type-kept index p key n free was =
+    let held = p .identifier in
+    let sub2 = eqb key (keyOf index 2) in
+    let unwritten = neither (eqb key (keyOf index 1) && on held && on n && not (eqb n held)) (sub2 && on held) free .1 in
+    sym (and-true sub2) ∙ ap (λ t. sub2 && t) (sym was) ∙ unwritten
 
 module _ {p : Pdo} {k : Clock} (v : ValidClock p k) where
   pub ticked-valid : (runs : Bool) → ValidClock p (ifRunning runs p k)
@@ -47,14 +55,10 @@ module _ {p : Pdo} {k : Clock} (v : ValidClock p k) where
       → let after = pdoAfter index p key n in ValidClock after (clockWritten (eqb key (keyOf index 5)) p after k)
   written-valid index key n free =
       let after = pdoAfter index p key n in
-      let held = p .identifier in
-      let sub2 = eqb key (keyOf index 2) in
       record {
         ticks = restarted (eqb key (keyOf index 5)) (switchedOn p after) n (p .event) (k .ticks) (v .ticks);
         syncs = λ o. by (Below (after .transmission)) (switchedOn p after) (λ _. inl refl)
             (λ e.
-            let was = was-on (on held) (on (after .identifier)) o e in
-            let unwritten = neither (eqb key (keyOf index 1) && on held && on n && not (eqb n held)) (sub2 && on held) free .1 in
-            let kept : sub2 ≡ false = sym (and-true sub2) ∙ ap (λ t. sub2 && t) (sym was) ∙ unwritten in
-            rw kept (v .syncs was));
+            let was = was-on (on (p .identifier)) (on (after .identifier)) o e in
+            rw (type-kept index p key n free was) (v .syncs was));
       }

@@ -7,6 +7,7 @@ use mathlib.Core.Bool.{Bool, false, not, _&&_, _||_, or-true, or-false}
 use mathlib.Core.List.{List}
 use mathlib.Core.Logic.{inl}
 use Rattle.cases.proofs.Cases.{by, by₂, neither, test}
+use Rattle.entries.specs.declared.Device.{Device}
 use Rattle.entries.specs.declared.Pdo.{Pdo}
 use Rattle.entries.specs.declared.Communication.{Communication}
 use Rattle.entries.specs.declared.table.Found.{Found}
@@ -19,7 +20,7 @@ use Rattle.position.specs.Position.{bit, scalingBit}
 use Rattle.sdo.specs.declared.reply.Effect.the-variants.{Write}
 use Rattle.sdo.specs.Reply.{carriedOut}
 use Rattle.sdo.specs.Service.{Due, none, value, confirmation, abort, answer, due}
-use Rattle.sdo.specs.Laws.{Told}
+use Rattle.sdo.specs.Laws.{Told, Confirmed}
 use Rattle.sdo.proofs.Laws.{laws}
 use Rattle.parts.specs.declared.Timers.{Timers}
 use Rattle.parts.specs.declared.Core.{Core}
@@ -45,32 +46,47 @@ inhibit-ticks : (n : ℕ) → n ≤ 0xFFFF → inhibitTicks n ≤ 6555
 inhibit-ticks n h = by (λ t. t ≤ 6555) (eqb n 0) (λ _. omega arith) (λ _. omega arith)
 
 -- 6200h is 1800-5 under a second index
-own-key : (k : ℕ) → eqb (ownKey k) 0x1800_05 ≡ (eqb k 0x1800_05 || eqb k 0x6200_00)
+pub own-key : (k : ℕ) → eqb (ownKey k) 0x1800_05 ≡ (eqb k 0x1800_05 || eqb k 0x6200_00)
 own-key k = test (eqb k 0x6200_00) (λ e. rw e (sym (or-true (eqb k 0x1800_05)))) (λ e. rw e (sym (or-false (eqb k 0x1800_05))))
 
-own-free : (p : Pdo) (k n : ℕ) → pdoBarred 0x1800 p k n ≡ false → pdoBarred 0x1800 p (ownKey k) n ≡ false
+pub own-free : (p : Pdo) (k n : ℕ) → pdoBarred 0x1800 p k n ≡ false → pdoBarred 0x1800 p (ownKey k) n ≡ false
 own-free p k n free = by (λ j. pdoBarred 0x1800 p j n ≡ false) (eqb k 0x6200_00) (λ _. refl) (λ _. free)
+
+-- 1800h, 1801h
+abbrev pub pdoIndex : Which → ℕ
+pdoIndex one = 0x1800
+pdoIndex two = 0x1801
+
+-- a write that is confirmed is barred by neither PDO
+pub free : (d : Device) (k n : ℕ) → barred d k n ≡ false → (w : Which) → pdoBarred (pdoIndex w) (pdo (d .settings .communication) w) k n ≡ false
+free d k n e = each
+  where
+    others : Bool
+    others = (eqb k 0x6002_00 || eqb k 0x6005_01) && not (bit scalingBit (d .settings .profile .operating)) || eqb k 0x6003_00 && missing d
+
+    apart : (others || pdoBarred 0x1800 (d .settings .communication .pdo1) k n ≡ false) × (pdoBarred 0x1801 (d .settings .communication .pdo2) k n ≡ false)
+    apart = neither (others || pdoBarred 0x1800 (d .settings .communication .pdo1) k n) (pdoBarred 0x1801 (d .settings .communication .pdo2) k n) e
+
+    each : (w : Which) → pdoBarred (pdoIndex w) (pdo (d .settings .communication) w) k n ≡ false
+    each one = neither others (pdoBarred 0x1800 (d .settings .communication .pdo1) k n) (apart .0) .1
+    each two = apart .1
+
+pub unbarred : {d : Device} {f : List ℕ} {x : Found} {k n : ℕ} → Confirmed d f x k n → barred d k n ≡ false
+unbarred {d} {n = n} t = rw (t .key) (taken d (rowAt (t .place)) n (t .takes .unrefused) .1)
 
 module _ (c : Core) (v : ValidTimers (communication c) (c .timers)) where
   write-valid : (k n : ℕ) → barred (c .device) k n ≡ false → ValidTimers (carriedOut (c .device) (Write k n) .settings .communication) (timersAfter c (Write k n))
   unfolding written
-  write-valid k n free =
-      let d = c .device in
-      let scaling = (eqb k 0x6002_00 || eqb k 0x6005_01) && not (bit scalingBit (d .settings .profile .operating)) in
-      let preset = eqb k 0x6003_00 && missing d in
-      let pdo1 = pdoBarred 0x1800 (communication c .pdo1) k n in
-      let pdo2 = pdoBarred 0x1801 (communication c .pdo2) k n in
-      let free2 = neither (scaling || preset || pdo1) pdo2 free in
-      let free1 = neither (scaling || preset) pdo1 (free2 .0) in
+  write-valid k n e =
       timers-are (v .inhibit) (by₂ Below (eqb k 0x1017_00) (λ _. inl refl) (λ _. v .heartbeat))
-      (rw (← own-key k) (written-valid (v .clocks one) 0x1800 (ownKey k) n (own-free (communication c .pdo1) k n (free1 .1))))
-      (written-valid (v .clocks two) 0x1801 k n (free2 .1))
+      (rw (← own-key k) (written-valid (v .clocks one) 0x1800 (ownKey k) n (own-free (communication c .pdo1) k n (free (c .device) k n e one))))
+      (written-valid (v .clocks two) 0x1801 k n (free (c .device) k n e two))
 
   told-valid : (o : Bool) (f : List ℕ) (x : Found) (y : Due) → Told (c .device) o f x y
       → let e = answer f y .effect in ValidTimers (carriedOut (c .device) e .settings .communication) (timersAfter c e)
   told-valid o f x none t = v
   told-valid o f x (value w n) t = v
-  told-valid o f x (confirmation k n) t = write-valid k n (rw (t .key) (taken (c .device) (rowAt (t .place)) n (t .takes .unrefused) .1))
+  told-valid o f x (confirmation k n) t = write-valid k n (unbarred t)
   told-valid o f x (abort code) t = v
 
   pub timers-act : (atSlot : Bool) (a : Act) → Fits atSlot c a → ValidDevice (c .device) → ValidTimers (communication (acted c a)) (acted c a .timers)

@@ -29,7 +29,7 @@ use Rattle.promises.proofs.Nothing.{step-nothing}
 use Rattle.promises.proofs.Refusals.{passes, fails, first-passes, second-passes, neither-passes, power-refusal, frame-refused, sample-refused, node-refused, node-taken}
 use Rattle.promises.proofs.Hearing.{heard-by}
 use Rattle.promises.proofs.Unmeant.{not-meant}
-use Rattle.promises.proofs.Causes.{by-request}
+use Rattle.promises.proofs.Causes.{by-request, by-sync}
 use Rattle.promises.proofs.Histories.{after-append, valid-reachable}
 
 -- A test and what it tests.
@@ -85,11 +85,6 @@ module _ (h : Head) (f : Received) (v : Valid h) where
   as-command x i (toEnter g) e = by Due (isIn g (h .core)) (λ _. inr refl) (λ n. inl (to-enter g (record { hears = x; identifier = i; says = e }) n))
   as-command x i (toReset r) e = inl (to-reset r (record { hears = x; identifier = i; says = e }))
 
-  as-sync : (x : Heard h f) → f .identifier ≡ 0x080 → (leb (f .length) 1 && isIn operational (h .core)) ≡ true → MeantFor h f
-  as-sync x i t =
-      let u = both (leb (f .length) 1) (isIn operational (h .core)) t in
-      to-synchronise (record { hears = x; identifier = i; length = leb-true (f .length) 1 (u .0); operational = u .1 })
-
   as-request : Requests h f → replies (answer (f .bytes) (dueTo h f) .effect) ≡ true → MeantFor h f
   as-request r t = to-serve r (unaborted (aborting (f .bytes)) (sym (sdo-laws (h .core .device) (isIn operational (h .core)) (f .bytes) .replied) ∙ t))
     where
@@ -100,7 +95,7 @@ module _ (h : Head) (f : Received) (v : Valid h) where
   means : Due (meant h (receive f))
   means =
       heard-by h f Due (inr refl) (λ x i. as-command x i (commandOf (node (h .core)) f) refl)
-      (λ x i. by Due (leb (f .length) 1 && isIn operational (h .core)) (λ t. inl (as-sync x i t)) (λ _. inr refl))
+      (λ x i. by Due (leb (f .length) 1 && isIn operational (h .core)) (λ t. inl (to-synchronise (by-sync h f v x i t))) (λ _. inr refl))
       (λ x i. by Due (eqb (f .length) 8 && isLive (h .core) && not (has line.sdoReply (h .line)))
       (λ t. by Due (replies (answer (f .bytes) (dueTo h f) .effect)) (λ u. inl (as-request (by-request h f v x i t) u)) (λ _. inr refl))
       (λ _. inr refl))

@@ -1,6 +1,7 @@
 -- `Demand2` of specs/Demand2.antt.
 use Rattle.promises.specs.Demand2.{Demand2}
 use Rattle.promises.proofs.NetworkStates.{network-states}
+use Rattle.promises.proofs.Moments.{moments-so}
 use Rattle.promises.proofs.Service.{serves}
 use Rattle.promises.proofs.Replies.{answers}
 use Rattle.promises.proofs.Readings.{tells}
@@ -15,6 +16,7 @@ demand2 =
     record {
       states = network-states;
       resets = save-and-reset;
+      moments = moments-so;
       error-list = error-list;
       tells = tells;
       worked = worked;

@@ -8,7 +8,7 @@ use mathlib.Core.Bool.{Bool, true, false, _&&_, cond}
 use mathlib.Core.List.{List, [], _∷_}
 use mathlib.Core.Option.{some}
 use borrow.Author.Tests.{eqb-true, eq-eqb, ltb-true, ltb-false}
-use Rattle.cases.proofs.Cases.{by, test, both, true-false}
+use Rattle.cases.proofs.Cases.{by, test, both}
 use Rattle.can.specs.declared.Received.{Received}
 use Rattle.entries.specs.declared.Device.{Device}
 use Rattle.entries.specs.declared.Reading.{Reading}
@@ -33,13 +33,14 @@ use Rattle.promises.specs.Calls.{Call, receive, tick, sample, slot, step
 use Rattle.promises.specs.Valid.{Valid}
 use Rattle.promises.specs.Meant.{dueTo, Writes}
 use Rattle.promises.specs.Histories.{after, PowerUp, powered}
-use Rattle.promises.specs.Service.{isRequest}
+use Rattle.promises.specs.Service.{isRequest, confirms}
 use Rattle.promises.specs.Readings.{sampleBy, readingOf}
-use Rattle.promises.specs.ErrorList.{confirms, empties, lossesBy, losses, shownError, ErrorList}
+use Rattle.promises.specs.ErrorList.{isCount, empties, lossesBy, losses, shownError, ErrorList}
 use Rattle.promises.proofs.Valid.{valid-step}
 use Rattle.promises.proofs.Altered.{Altered, heard, timed, sent, refused, took, lost, restarted, served, altered}
 use Rattle.promises.proofs.Histories.{valid-powered}
 use Rattle.promises.proofs.Service.{is-request}
+use Rattle.promises.proofs.Tested.{confirmed-by}
 use Rattle.promises.proofs.Readings.{reading-step, reading-powered}
 use Rattle.promises.proofs.Positions.{written-by}
 
@@ -64,7 +65,7 @@ counts Missing e n q h = q
 counts (Raw r) e n q h = by (λ (m : ℕ). m ≡ min 4 (suc n)) (ltb e 4) (λ t. omega (arith, q, ltb-true e 4 t)) (λ t. omega (arith, q, ltb-false e 4 t))
 
 -- only a write to 1003-0 empties the list
-errors-due : (d : Device) (f : List ℕ) (y : Due) → confirms 0x1003_00 y ≡ false → carriedOut d (answer f y .effect) .errors ≡ d .errors
+errors-due : (d : Device) (f : List ℕ) (y : Due) → confirms isCount y ≡ false → carriedOut d (answer f y .effect) .errors ≡ d .errors
 unfolding written
 errors-due d f none n = refl
 errors-due d f (value w x) n = refl
@@ -75,12 +76,6 @@ emptied-errors : (d : Device) (v : ℕ) → written d 0x1003_00 v .errors ≡ 0
 unfolding written
 emptied-errors d v = refl
 
-confirmed-by : (k : ℕ) (y : Due) → confirms k y ≡ true → (v : ℕ) × (y ≡ confirmation k v)
-confirmed-by k none e = true-false (sym e)
-confirmed-by k (value w n) e = true-false (sym e)
-confirmed-by k (confirmation j v) e = (v, ap (λ (i : ℕ). confirmation i v) (eqb-true j k e))
-confirmed-by k (abort c) e = true-false (sym e)
-
 module _ (h : Head) (f : Received) where
   -- what is written there is 0
   pub is-emptied : (empties h f ≡ true) ↔ Writes h f 0x1003_00 0
@@ -90,8 +85,9 @@ module _ (h : Head) (f : Received) where
       as-write e =
           let d = h .core .device in
           let o = isIn operational (h .core) in
-          let u = both (isRequest h f) (confirms 0x1003_00 (dueTo h f)) e in
-          let y = confirmed-by 0x1003_00 (dueTo h f) (u .1) in
+          let u = both (isRequest h f) (confirms isCount (dueTo h f)) e in
+          let x = confirmed-by isCount (dueTo h f) (u .1) in
+          let y : (v : ℕ) × (dueTo h f ≡ confirmation 0x1003_00 v) = (x .1, x .3 ∙ ap (λ (k : ℕ). confirmation k (x .1)) (eqb-true (x .0) 0x1003_00 (x .2))) in
           let c : Confirmed d (f .bytes) _ 0x1003_00 (y .0) = rw (y .1) at (sdo-laws d o (f .bytes) .told) in
           let zero : y .0 ≡ 0 = emptied d o (c .place) (y .0) (c .takes) (eq-eqb _ _ (sym (c .key))) in
           record { requests = is-request h f .0 (u .0); accepted = y .1 ∙ ap (λ (v : ℕ). confirmation 0x1003_00 v) zero }

@@ -48,8 +48,14 @@ pub mod ReadsOn
 pub mod Resets
 pub mod ResetsMet
 pub mod Node1
+pub mod Remainders
+pub mod Tested
+pub mod Beats
+pub mod Clocked
+pub mod Moments
 pub mod Worked
 pub mod Demand2
 pub mod Demand3
 pub mod FullLine
 pub mod Busy
+pub mod Joining

@@ -7,6 +7,7 @@ use Rattle.parts.specs.declared.Sensor.the-variants.{Missing}
 use Rattle.promises.specs.Calls.{Call}
 use Rattle.promises.specs.Histories.{after, PowerUp, powered, Reachable}
 use Rattle.promises.specs.NetworkStates.{NetworkStates}
+use Rattle.promises.specs.Moments.{Moments}
 use Rattle.promises.specs.Service.{Serves, Answers}
 use Rattle.promises.specs.Readings.{Tells, lastSample, Positioned}
 use Rattle.promises.specs.Effects.{ServedRightly}
@@ -18,6 +19,8 @@ pub record Demand2 : Type 0 where
   -- The head behaves as CiA 301 and CiA 406 require in the form 01 gives them: its states; save, load and the two resets;
   pub states : NetworkStates
   pub resets : Resets
+  -- when each kind joins the waiting line;
+  pub moments : (p : PowerUp) (cs : List Call) → Moments p cs
   -- 1003h counts good-to-missing changes since the list was emptied, at most 4; 6004h is blank exactly while missing, 1001h and 6503h say so;
   pub error-list : (p : PowerUp) (cs : List Call) → ErrorList p cs
   pub tells : (p : PowerUp) (cs : List Call) → Tells (after (powered p) cs) (lastSample Missing cs)

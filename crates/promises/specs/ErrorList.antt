@@ -3,32 +3,27 @@ use Prim.Native.Nat.{ℕ, suc, _≤_, min}
 use lib.Dec.{eqb, ltb}
 use mathlib.Core.Path.{_≡_}
 use mathlib.Core.Logic.{_↔_}
-use mathlib.Core.Bool.{Bool, true, false, _&&_, cond}
+use mathlib.Core.Bool.{Bool, true, _&&_, cond}
 use mathlib.Core.List.{List, [], _∷_}
 use mathlib.Core.Option.{some}
 use Rattle.can.specs.declared.Received.{Received}
 use Rattle.dictionary.specs.declared.read.Shown.{Shown}
 use Rattle.dictionary.specs.declared.read.Shown.the-variants.{Blank, Number}
-use Rattle.sdo.specs.Service.{Due, none, value, confirmation, abort}
 use Rattle.parts.specs.declared.Head.{Head}
 use Rattle.parts.specs.declared.Sensor.{Sensor}
 use Rattle.parts.specs.declared.Sensor.the-variants.{Missing, Raw}
 use Rattle.promises.specs.Calls.{Call, receive, tick, sample, slot, step}
 use Rattle.promises.specs.Meant.{dueTo, Writes}
 use Rattle.promises.specs.Histories.{after, PowerUp, powered}
-use Rattle.promises.specs.Service.{isRequest}
+use Rattle.promises.specs.Service.{isRequest, confirms}
 use Rattle.promises.specs.Readings.{readsIn, sampleBy}
 
--- the confirmation of a write to the entry of key k
-abbrev pub confirms : ℕ → Due → Bool
-confirms k none = false
-confirms k (value w n) = false
-confirms k (confirmation j v) = eqb j k
-confirms k (abort c) = false
+abbrev pub isCount : ℕ → ℕ → Bool
+isCount k v = eqb k 0x1003_00
 
 -- 1003-0: only 0 accepted, empties the list
 abbrev pub empties : Head → Received → Bool
-empties h f = isRequest h f && confirms 0x1003_00 (dueTo h f)
+empties h f = isRequest h f && confirms isCount (dueTo h f)
 
 -- The good-to-missing changes since the list was last emptied: s the last sample and n their number before the call.
 -- In every state, also Initialising; only a good sample followed by a missing one is such a change.

@@ -11,6 +11,7 @@ pub mod NetworkStates
 pub mod Service
 pub mod Readings
 pub mod Withdrawals
+pub mod Moments
 pub mod Effects
 pub mod Resets
 pub mod ErrorList
@@ -24,3 +25,4 @@ pub mod Demand3
 pub mod FullLine
 pub mod Busy
 pub mod Runs
+pub mod Joining

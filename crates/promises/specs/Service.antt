@@ -13,7 +13,7 @@ use Rattle.can.specs.Frame.{refusalOf}
 use Rattle.sdo.specs.declared.reply.Served.{Served}
 use Rattle.sdo.specs.Request.{aborting}
 use Rattle.sdo.specs.Reply.{carriedOut}
-use Rattle.sdo.specs.Service.{answer}
+use Rattle.sdo.specs.Service.{Due, value, confirmation, abort, answer}
 use Rattle.waiting.specs.Places.{waiting}
 use Rattle.parts.specs.declared.Head.{Head}
 use Rattle.promises.specs.States.{operational, stopped, preOperational, isInitialising, isLive, node, Command, noCommand, toEnter, toReset, commandOf}
@@ -48,6 +48,13 @@ isRequest h f =
 
 abbrev pub isAnswered : Head → Received → Bool
 isAnswered h f = isRequest h f && not (aborting (f .bytes))
+
+-- the confirmation of a write whose key and value pass a test
+abbrev pub confirms : (ℕ → ℕ → Bool) → Due → Bool
+confirms t Due.none = false
+confirms t (value w n) = false
+confirms t (confirmation k v) = t k v
+confirms t (abort code) = false
 
 -- Reply: 580h+N, 8 bytes
 abbrev pub replyFrame : ℕ → List ℕ → Frame

@@ -1,0 +1,209 @@
+-- A PDO's clock is the rest of the ticks and SYNCs that the calls count, while the PDO can join.
+use Prim.Native.Nat.{ℕ, suc}
+use lib.Dec.{eqb}
+use mathlib.Core.Path.{_≡_, refl, sym, ap, ap₂, subst, _∙_}
+use mathlib.Core.Bool.{Bool, true, false, not, _&&_, _||_, cond, and-comm, not-and-self}
+use mathlib.Core.List.{List}
+use Rattle.cases.specs.Tests.{within}
+use Rattle.cases.proofs.Cases.{by₂, test, true-false}
+use Rattle.entries.specs.declared.Communication.{Communication}
+use Rattle.entries.specs.declared.table.Found.{Found}
+use Rattle.dictionary.specs.Accepted.{on, pdoBarred, barred}
+use Rattle.dictionary.specs.Writes.{ownKey, communicationAfter, written}
+use Rattle.sdo.specs.declared.reply.Effect.{Effect}
+use Rattle.sdo.specs.declared.reply.Effect.the-variants.{Nothing, Reply, Write}
+use Rattle.sdo.specs.declared.reply.Served.{Served}
+use Rattle.sdo.specs.Reply.{carriedOut}
+use Rattle.sdo.specs.Service.{Due, none, value, confirmation, abort, answer, due}
+use Rattle.sdo.specs.Laws.{Told}
+use Rattle.sdo.proofs.Laws.{laws}
+use Rattle.parts.specs.declared.Timers.{Timers}
+use Rattle.parts.specs.declared.Core.{Core}
+use Rattle.parts.specs.declared.Head.{Head}
+use Rattle.promises.specs.States.{operational, stopped, preOperational, isIn, communication, Which, one, two, pdo, clock, uncounted}
+use Rattle.promises.specs.WaitingLine.{emergency, sdoReply, heartbeat, tpdo}
+use Rattle.promises.specs.Timers.{synchronous, clockSynced, ifRunning, timersTicked, timersSynced, switchedOn, clockWritten, timersWritten}
+use Rattle.promises.specs.Acts.{Act, nothing, enter, reset, boot, idle, send, take, lose, time, sync, serve, uncountedPdos, inhibited, timersAfter, acted}
+use Rattle.promises.specs.Calls.{Call, isSlot, meant, step}
+use Rattle.promises.specs.Valid.{Valid}
+use Rattle.promises.specs.Withdrawals.{identifierKey}
+use Rattle.promises.specs.Moments.{countBy, pdoOf, isSwitch, isSub5, ticksAnew, tickCounts, syncsAnew, synchronises}
+use Rattle.promises.proofs.Fits.{Fits, fits}
+use Rattle.promises.proofs.Clocks.{was-on, type-kept}
+use Rattle.promises.proofs.Counts.{own-key, own-free, pdoIndex, free, unbarred}
+use Rattle.promises.proofs.Meant.{core-step}
+use Rattle.promises.proofs.Conditions.{own-identifier}
+use Rattle.promises.proofs.Remainders.{Rest, anew, one-more}
+use Rattle.promises.proofs.Tested.{Marks, marks, effectTo, tested}
+
+-- what becomes of one PDO's clock
+module _ (s : Communication) (t : Timers) where
+  clock-uncounted : (w : Which) → clock (uncountedPdos t) w ≡ uncounted
+  clock-uncounted one = refl
+  clock-uncounted two = refl
+
+  clock-inhibited : (ticks : ℕ) (w : Which) → clock (inhibited t ticks) w ≡ clock t w
+  clock-inhibited ticks one = refl
+  clock-inhibited ticks two = refl
+
+  clock-ticked : (runs : Bool) (w : Which) → clock (timersTicked runs s t) w ≡ ifRunning runs (pdo s w) (clock t w)
+  clock-ticked runs one = refl
+  clock-ticked runs two = refl
+
+  clock-synced : (w : Which) → clock (timersSynced s t) w ≡ clockSynced (pdo s w) (clock t w)
+  clock-synced one = refl
+  clock-synced two = refl
+
+  clock-written : (k v : ℕ) (later : Communication) (w : Which) → clock (timersWritten k s later t) w ≡ clockWritten (isSub5 w k v) (pdo s w) (pdo later w) (clock t w)
+  clock-written k v later one = refl
+  clock-written k v later two = refl
+
+module _ (s : Communication) (k v : ℕ) where
+  -- only a write to sub 5 alters the event time
+  event-kept : (w : Which) → isSub5 w k v ≡ false → pdo (communicationAfter s k v) w .event ≡ pdo s w .event
+  event-kept one e = rw (own-key k, e)
+  event-kept two e = rw e
+
+  -- only a write to sub 1 that clears bit 31 switches on
+  switched : (w : Which) → switchedOn (pdo s w) (pdo (communicationAfter s k v) w) ≡ (isSwitch w k v && not (on (pdo s w .identifier)))
+  switched w =
+      ap (λ i. not (on (pdo s w .identifier)) && on i) (identifier w)
+      ∙ test (eqb k (identifierKey w)) (λ e. rw e (and-comm (not (on (pdo s w .identifier))) (on v))) (λ e. rw e (not-and-self (on (pdo s w .identifier))))
+    where
+      identifier : (w : Which) → pdo (communicationAfter s k v) w .identifier ≡ cond (eqb k (identifierKey w)) v (pdo s w .identifier)
+      identifier one = rw (own-identifier k)
+      identifier two = refl
+
+  -- While a PDO is on its type cannot be written.
+  transmission-kept : (w : Which) → pdoBarred (pdoIndex w) (pdo s w) k v ≡ false → on (pdo s w .identifier) ≡ true
+      → pdo (communicationAfter s k v) w .transmission ≡ pdo s w .transmission
+  transmission-kept one e o = rw (type-kept 0x1800 (s .pdo1) (ownKey k) v (own-free (s .pdo1) k v e) o)
+  transmission-kept two e o = rw (type-kept 0x1801 (s .pdo2) k v e o)
+
+-- a count that begins anew together with the one of the calls
+restarted : (sub5 switched : Bool) (period before t n : ℕ) → (sub5 ≡ false → period ≡ before) → Rest before t n
+    → Rest period (cond (sub5 || switched) 0 t) (cond (switched || sub5) 0 n)
+restarted true true period before t n same r = anew period
+restarted true false period before t n same r = anew period
+restarted false true period before t n same r = anew period
+restarted false false period before t n same r = rw (same refl) r
+
+-- the counts after an act: from entry or from switching on
+abbrev begun : Which → Core → Marks → Bool
+begun w c m = m .enters || effectTo (isSwitch w) (m .effect) && not (on (pdo (communication c) w .identifier))
+
+abbrev tickBy : Which → Core → Marks → ℕ → ℕ
+tickBy w c m n = cond (begun w c m || effectTo (isSub5 w) (m .effect)) 0 (cond (m .times && isIn operational c) (suc n) n)
+
+abbrev syncBy : Which → Core → Marks → ℕ → ℕ
+syncBy w c m n = cond (begun w c m) 0 (cond (m .syncs) (suc n) n)
+
+-- ticks count in Operational; SYNCs for a PDO that is on and of types 1..240
+abbrev pub Ticks : Which → Core → ℕ → Type 0
+Ticks w c n = isIn operational c ≡ true → Rest (pdo (communication c) w .event) (clock (c .timers) w .ticks) n
+
+abbrev pub Syncs : Which → Core → ℕ → Type 0
+Syncs w c n =
+    isIn operational c ≡ true
+    → on (pdo (communication c) w .identifier) ≡ true
+    → synchronous (pdo (communication c) w) ≡ true
+    → Rest (pdo (communication c) w .transmission) (clock (c .timers) w .syncs) n
+
+module _ (w : Which) (c : Core) (n : ℕ) where
+  abbrev s : Communication
+  s = communication c
+
+  abbrev t : Timers
+  t = c .timers
+
+  ticks-written : (e : Effect) → Rest (pdo s w .event) (clock t w .ticks) n
+      → Rest (pdo (carriedOut (c .device) e .settings .communication) w .event) (clock (timersAfter c e) w .ticks)
+      (cond (effectTo (isSwitch w) e && not (on (pdo s w .identifier)) || effectTo (isSub5 w) e) 0 n)
+  unfolding written
+  ticks-written Nothing r = r
+  ticks-written Reply r = r
+  ticks-written (Write k v) r =
+      let later = communicationAfter s k v in
+      rw (clock-written s t k v later w, ← switched s k v w)
+      (restarted (isSub5 w k v) (switchedOn (pdo s w) (pdo later w)) (pdo later w .event) (pdo s w .event) (clock t w .ticks) n (event-kept s k v w) r)
+
+  ticks-act : (b : Bool) (a : Act) → Fits b c a → Ticks w c n → Ticks w (acted c a) (tickBy w c (marks a) n)
+  ticks-act b nothing f r o = r o
+  ticks-act b (enter operational) f r o = rw (clock-uncounted s t w) (anew (pdo s w .event))
+  ticks-act b (enter stopped) f r o = true-false (sym o)
+  ticks-act b (enter preOperational) f r o = true-false (sym o)
+  ticks-act b (reset x) f r o = true-false (sym o)
+  ticks-act b boot f r o = true-false (sym o)
+  ticks-act b idle f r o = r o
+  ticks-act b (send emergency) f r o = rw (clock-inhibited s t _ w) (r o)
+  ticks-act b (send sdoReply) f r o = r o
+  ticks-act b (send heartbeat) f r o = r o
+  ticks-act b (send (tpdo x)) f r o = r o
+  ticks-act b (take x) f r o = r o
+  ticks-act b lose f r o = r o
+  ticks-act b time f r o = rw (clock-ticked s t (isIn operational c) w, o) (one-more _ _ _ (r o))
+  ticks-act b sync f r o = rw (clock-synced s t w) (r o)
+  ticks-act b (serve x) f r o = ticks-written (x .effect) (r o)
+
+  abbrev SyncsBy : Effect → Type 0
+  SyncsBy e =
+      let later = pdo (carriedOut (c .device) e .settings .communication) w in
+      on (later .identifier) ≡ true
+      → synchronous later ≡ true
+      → Rest (later .transmission) (clock (timersAfter c e) w .syncs) (cond (effectTo (isSwitch w) e && not (on (pdo s w .identifier))) 0 n)
+
+  module _ (o : isIn operational c ≡ true) (r : Syncs w c n) where
+    syncs-written : (k v : ℕ) → barred (c .device) k v ≡ false → SyncsBy (Write k v)
+    unfolding written
+    syncs-written k v e y z =
+        let later = communicationAfter s k v in
+        rw (clock-written s t k v later w, ← switched s k v w)
+        (by₂ (Rest (pdo later w .transmission)) (switchedOn (pdo s w) (pdo later w))
+        (λ _. anew (pdo later w .transmission))
+        (λ m.
+        let was = was-on (on (pdo s w .identifier)) (on (pdo later w .identifier)) y m in
+        let same = transmission-kept s k v w (free (c .device) k v e w) was in
+        rw same (r o was (sym (ap (within 1 240) same) ∙ z))))
+
+    syncs-told : (q : List ℕ) (x : Found) (d : Due) → Told (c .device) (isIn operational c) q x d → SyncsBy (answer q d .effect)
+    syncs-told q x none told y z = r o y z
+    syncs-told q x (value u m) told y z = r o y z
+    syncs-told q x (confirmation k v) told y z = syncs-written k v (unbarred told) y z
+    syncs-told q x (abort code) told y z = r o y z
+
+  syncs-act : (b : Bool) (a : Act) → Fits b c a → Syncs w c n → Syncs w (acted c a) (syncBy w c (marks a) n)
+  syncs-act b nothing f r o y z = r o y z
+  syncs-act b (enter operational) f r o y z = rw (clock-uncounted s t w) (anew (pdo s w .transmission))
+  syncs-act b (enter stopped) f r o y z = true-false (sym o)
+  syncs-act b (enter preOperational) f r o y z = true-false (sym o)
+  syncs-act b (reset x) f r o y z = true-false (sym o)
+  syncs-act b boot f r o y z = true-false (sym o)
+  syncs-act b idle f r o y z = r o y z
+  syncs-act b (send emergency) f r o y z = rw (clock-inhibited s t _ w) (r o y z)
+  syncs-act b (send sdoReply) f r o y z = r o y z
+  syncs-act b (send heartbeat) f r o y z = r o y z
+  syncs-act b (send (tpdo x)) f r o y z = r o y z
+  syncs-act b (take x) f r o y z = r o y z
+  syncs-act b lose f r o y z = r o y z
+  syncs-act b time f r o y z = rw (clock-ticked s t (isIn operational c) w, o) (r o y z)
+  syncs-act b sync f r o y z = rw (clock-synced s t w, y, z) (one-more _ _ _ (r o y z))
+  syncs-act b (serve x) f r o y z =
+      let q = f .1 .0 in
+      let from-due = syncs-told o r q _ (due (c .device) (isIn operational c) q) (laws (c .device) (isIn operational c) q .told) in
+      subst (λ e. SyncsBy e) (ap (λ (u : Served). u .effect) (sym (f .1 .1))) from-due y z
+
+module _ (w : Which) (h : Head) (n : ℕ) (v : Valid h) (x : Call) where
+  same-begun : syncsAnew w h x ≡ begun w (h .core) (marks (meant h x))
+  same-begun = ap₂ (λ (e o : Bool). e || o && not (on (pdoOf h w .identifier))) (tested h v x .enters) (tested h v x .written (isSwitch w))
+
+  pub ticks-step : Ticks w (h .core) n → Ticks w (step h x .core) (countBy (ticksAnew w) tickCounts h x n)
+  ticks-step r =
+      let same : countBy (ticksAnew w) tickCounts h x n ≡ tickBy w (h .core) (marks (meant h x)) n =
+      ap₂ (λ (anew ticks : Bool). cond anew 0 (cond ticks (suc n) n)) (ap₂ (λ (b e : Bool). b || e) same-begun (tested h v x .written (isSub5 w))) (tested h v x .ticks) in
+      rw (same, core-step h x) (ticks-act w (h .core) n (isSlot x) (meant h x) (fits h x) r)
+
+  pub syncs-step : Syncs w (h .core) n → Syncs w (step h x .core) (countBy (syncsAnew w) synchronises h x n)
+  syncs-step r =
+      let same : countBy (syncsAnew w) synchronises h x n ≡ syncBy w (h .core) (marks (meant h x)) n =
+      ap₂ (λ (anew syncs : Bool). cond anew 0 (cond syncs (suc n) n)) same-begun (tested h v x .syncs) in
+      rw (same, core-step h x) (syncs-act w (h .core) n (isSlot x) (meant h x) (fits h x) r)
