@@ -76,4 +76,5 @@ worked =
       factory = (refl, refl);
       valid = ready-valid;
       each = refl;
+      accepted = refl;
     }
