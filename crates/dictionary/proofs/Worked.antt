@@ -1,7 +1,8 @@
 -- 01's own numbers, by computation; that `ready` is valid, by the laws of the factory settings and of accepted writes. Assumes nothing.
 use Prim.Native.Nat.{ℕ}
 use native.Mathlib.Omega.{arith}
-use mathlib.Core.Path.{refl}
+use mathlib.Core.Path.{_≡_, refl}
+use mathlib.Core.Bool.{true}
 use Rattle.cases.proofs.Cases.{true-false}
 use Rattle.entries.specs.declared.table.Found.{Found}
 use Rattle.entries.specs.declared.table.Found.the-variants.{At, NoSubIndex, NoIndex}
@@ -10,7 +11,7 @@ use Rattle.dictionary.specs.Accepted.{refusal}
 use Rattle.dictionary.specs.Reads.{shownAt}
 use Rattle.dictionary.specs.Writes.{written}
 use Rattle.dictionary.specs.Valid.{ValidDevice}
-use Rattle.dictionary.specs.Worked.{at, ready, Worked}
+use Rattle.dictionary.specs.Worked.{at, ready, ends, endEach, Worked}
 use Rattle.dictionary.proofs.Laws.{laws}
 
 at-valid : ValidDevice (at 100)
@@ -39,6 +40,10 @@ ready-valid =
     let one = laws .written-valid (at 100) (placeOf (lookup 0x1800 1)) 0x80000181 (record { stands = omega arith; writable = refl; long = omega arith; unrefused = refl }) at-valid in
     let two = laws .written-valid _ (placeOf (lookup 0x1801 1)) 0x80000281 (record { stands = omega arith; writable = refl; long = omega arith; unrefused = refl }) one in
     laws .written-valid _ (placeOf (lookup 0x6000 0)) 4 (record { stands = omega arith; writable = refl; long = omega arith; unrefused = refl }) two
+
+ends-accepted : endEach ready ends ≡ true
+unfolding entries table lookup refusal written
+ends-accepted = refl
 
 pub worked : Worked
 unfolding entries table lookup refusal shownAt written
@@ -76,4 +81,5 @@ worked =
       factory = (refl, refl);
       valid = ready-valid;
       each = refl;
+      accepted = ends-accepted;
     }

@@ -141,6 +141,42 @@ writes =
     (0x6200_00, 8) ∷
     []
 
+-- 01's column of accepted values, at 6002h = 1,000,000: index, sub-index, the ends of what is accepted, and the numbers next to them.
+abbrev pub ends : List (ℕ × ℕ × List ℕ × List ℕ)
+ends =
+    (0x1003, 0, 0 ∷ [], 1 ∷ 255 ∷ []) ∷
+    (0x1014, 0, 0x81 ∷ 0x80000081 ∷ [], 0x80 ∷ 0x82 ∷ 0x80000080 ∷ 0x80000082 ∷ []) ∷
+    (0x1015, 0, 0 ∷ 65535 ∷ [], []) ∷
+    (0x1017, 0, 0 ∷ 65535 ∷ [], []) ∷
+    (0x1800, 1, 0x181 ∷ 0x57F ∷ 0x80000000 ∷ 0x800007FF ∷ [], 0x180 ∷ 0x580 ∷ 0x7FFFFFFF ∷ 0x80000800 ∷ []) ∷
+    (0x1800, 2, 1 ∷ 240 ∷ 254 ∷ 255 ∷ [], 0 ∷ 241 ∷ 253 ∷ []) ∷
+    (0x1800, 5, 0 ∷ 65535 ∷ [], []) ∷
+    (0x1801, 1, 0x181 ∷ 0x57F ∷ 0x80000000 ∷ 0x800007FF ∷ [], 0x180 ∷ 0x580 ∷ 0x7FFFFFFF ∷ 0x80000800 ∷ []) ∷
+    (0x1801, 2, 1 ∷ 240 ∷ 254 ∷ 255 ∷ [], 0 ∷ 241 ∷ 253 ∷ []) ∷
+    (0x1801, 5, 0 ∷ 65535 ∷ [], []) ∷
+    (0x6000, 0, 0 ∷ 4 ∷ 8 ∷ 12 ∷ [], 1 ∷ 2 ∷ 16 ∷ 0x8000 ∷ []) ∷
+    (0x6002, 0, 1000 ∷ 1000000 ∷ [], 999 ∷ 1000001 ∷ []) ∷
+    (0x6003, 0, 0 ∷ 999999 ∷ [], 1000000 ∷ []) ∷
+    (0x6005, 1, 5000 ∷ 1000000 ∷ [], 4999 ∷ 1000001 ∷ []) ∷
+    (0x6200, 0, 0 ∷ 65535 ∷ [], []) ∷
+    []
+
+abbrev pub isCode : ℕ → Option ℕ → Bool
+isCode code none = false
+isCode code (some c) = eqb c code
+
+-- A write of each number to the entry that is found is refused with this abort code; 0: it is accepted.
+abbrev pub answerEach : Device → Found → ℕ → List ℕ → Bool
+answerEach d x code [] = true
+answerEach d x code (v ∷ vs) = isCode code (refusalOf d v x) && answerEach d x code vs
+
+-- Each entry accepts the first numbers, and refuses the second with 0609 0030h.
+abbrev pub endEach : Device → List (ℕ × ℕ × List ℕ × List ℕ) → Bool
+endEach d [] = true
+endEach d (e ∷ l) =
+    let x = lookup (e .0) (e .1) in
+    answerEach d x 0 (e .2) && answerEach d x invalidValue (e .3) && endEach d l
+
 -- 01's column of factory values, at node 1: index, sub-index, number.
 abbrev pub factoryValues : List (ℕ × ℕ × ℕ)
 factoryValues =
@@ -253,3 +289,5 @@ pub record Worked : Type 0 where
   -- each rw entry takes some write, at a valid device
   pub valid : ValidDevice ready
   pub each : takeAll ready table writes ≡ true
+  -- and the ends of what each accepts, but for the signatures
+  pub accepted : endEach ready ends ≡ true

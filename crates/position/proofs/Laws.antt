@@ -1,16 +1,30 @@
 -- The laws of specs/Laws, proved. Assumes nothing.
-use Prim.Native.Nat.{ℕ, _<_}
-use native.Mathlib.Nat.{mod-eq-of-lt}
+use Prim.Native.Nat.{ℕ, _+_, _*_, _/_, _%_, _≤_, _<_}
+use native.Mathlib.Nat.{mod-lt, mod-eq-of-lt, mod-add-div'}
 use native.Mathlib.Omega.{arith}
 use lib.IntN.{ℤ, pos, _+ℤ_, _-ℤ_, +ℤ-comm, +ℤ-idr, -ℤ-+ℤ-cancel}
 use mathlib.Core.Path.{_≡_, sym, ap, _∙_}
+use mathlib.Core.Bool.{true}
 use Rattle.position.specs.declared.Profile.{Profile}
-use Rattle.position.specs.Position.{modℤ, directed, position, presetTo}
+use Rattle.position.specs.Position.{bit, scalingBit, directionBit, modℤ, scaledCount, count, directed, position, presetTo}
 use Rattle.position.specs.Profile.{ValidProfile}
 use Rattle.position.specs.Laws.{Agrees, Positions, Presets, Laws}
 use Rattle.position.proofs.Whole.{difference-below}
 use Rattle.position.proofs.Modulo.{mod-below, mod-multiple, mod-more}
 use Rattle.position.proofs.Direction.{directed-below, mirrors}
+
+-- a number divided, rounded down
+rounded-down : (n t : ℕ) → 0 < t → (n / t * t ≤ n) × (n < (n / t + 1) * t)
+rounded-down n t h =
+    let e : n % t + n / t * t ≡ n = mod-add-div' n t in
+    let l : n % t < t = mod-lt n h in
+    (omega arith, omega arith)
+
+scaled : (p : Profile) (r : ℕ) → 0 < p .step → bit scalingBit (p .operating) ≡ true → (scaledCount p r * p .step ≤ r * 5000) × (r * 5000 < (scaledCount p r + 1) * p .step)
+scaled p r h e = rw e (rounded-down (r * 5000) (p .step) h)
+
+inverted : (p : Profile) (r : ℕ) → 0 < p .range → bit directionBit (p .operating) ≡ true → directed p r + count p r + 1 ≡ p .range
+inverted p r h e = let l = mod-lt (scaledCount p r) h in rw e (omega arith)
 
 only : (p : Profile) (r n : ℕ) → 0 < p .range → n < p .range → Agrees p r n → n ≡ position p r
 only p r n h l a =
@@ -28,6 +42,12 @@ positions : (p : Profile) (r : ℕ) → ValidProfile p → Positions p r
 positions p r v =
     let h : 0 < p .range = omega arith in
     record {
+      unscaled = λ e. rw e;
+      scaled = scaled p r (omega arith);
+      count-below = mod-lt (scaledCount p r) h;
+      counted = (scaledCount p r / p .range, sym (mod-add-div' (scaledCount p r) (p .range)));
+      straight = λ e. rw e;
+      inverted = inverted p r h;
       directed-below = directed-below p r h;
       below = mod-below (pos (directed p r) +ℤ p .offset) (p .range) h;
       agrees = mod-multiple (pos (directed p r) +ℤ p .offset) (p .range) h;

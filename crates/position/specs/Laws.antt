@@ -1,11 +1,11 @@
 -- What holds of every valid profile, at every raw count: of the position, of the direction, of a preset.
 -- 01, chapter "Position".
-use Prim.Native.Nat.{ℕ, _+_, _-_, _<_, _^_}
+use Prim.Native.Nat.{ℕ, _+_, _*_, _-_, _≤_, _<_, _^_}
 use lib.IntN.{ℤ, pos, _+ℤ_, _*ℤ_, natAbs}
 use mathlib.Core.Path.{_≡_}
-use mathlib.Core.Bool.{false, not, cond}
+use mathlib.Core.Bool.{true, false, not, cond}
 use Rattle.position.specs.declared.Profile.{Profile}
-use Rattle.position.specs.Position.{bit, scalingBit, directionBit, count, directed, position, presetTo}
+use Rattle.position.specs.Position.{bit, scalingBit, directionBit, scaledCount, count, directed, position, presetTo}
 use Rattle.position.specs.Profile.{ValidProfile}
 
 -- n differs from d + offset by a multiple of T
@@ -13,6 +13,16 @@ abbrev pub Agrees : Profile → ℕ → ℕ → Type 0
 Agrees p r n = (k : ℤ) × (pos n ≡ pos (directed p r) +ℤ p .offset +ℤ k *ℤ pos (p .range))
 
 pub record Positions (p : Profile) (r : ℕ) : Type 0 where
+  -- Scaling off: s = r;
+  pub unscaled : bit scalingBit (p .operating) ≡ false → scaledCount p r ≡ r
+  -- on: s is the greatest number of 6005h steps in r × 5,000
+  pub scaled : bit scalingBit (p .operating) ≡ true → (scaledCount p r * p .step ≤ r * 5000) × (r * 5000 < (scaledCount p r + 1) * p .step)
+  -- c is below T, and s less a multiple of it
+  pub count-below : count p r < p .range
+  pub counted : (k : ℕ) × (scaledCount p r ≡ count p r + k * p .range)
+  -- Direction 0: d = c; 1: d and c are T − 1 together
+  pub straight : bit directionBit (p .operating) ≡ false → directed p r ≡ count p r
+  pub inverted : bit directionBit (p .operating) ≡ true → directed p r + count p r + 1 ≡ p .range
   pub directed-below : directed p r < p .range
   pub below : position p r < p .range
   -- the position is the one number below T that differs from d + offset by a multiple of T

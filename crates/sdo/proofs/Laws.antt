@@ -146,6 +146,7 @@ module _ (d : Device) (o : Bool) (f : List ℕ) where
         confirms = confirms;
         unused-confirming = unused-confirming;
         unused = unused;
+        aborts = λ c e. rw e;
         unaltered = unaltered-by d o f (due d o f);
         valid = valid-by d o f asked (due d o f) (told d o f);
         reserved = reserved;

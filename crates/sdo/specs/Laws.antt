@@ -71,6 +71,8 @@ pub record Laws (d : Device) (o : Bool) (f : List ℕ) : Type 0 where
   pub unused-confirming : (k v : ℕ) → due d o f ≡ confirmation k v → served d o f .bytes ≡ 0x60 ∷ byte f 1 ∷ byte f 2 ∷ byte f 3 ∷ replicate 4 0
   pub unused : ValidDevice d → (w n : ℕ) → due d o f ≡ value w n
       → served d o f .bytes ≡ command w ∷ byte f 1 ∷ byte f 2 ∷ byte f 3 ∷ lowFirst w n ++ replicate (4 - w) 0
+  -- abort 80h with the code, low byte first
+  pub aborts : (c : ℕ) → due d o f ≡ abort c → served d o f .bytes ≡ 0x80 ∷ byte f 1 ∷ byte f 2 ∷ byte f 3 ∷ lowFirst 4 c
   -- an aborted write alters no entry, nor does a read: only what is answered 60h alters the device
   pub unaltered : (byte (served d o f .bytes) 0 ≡ 0x60 → ⊥) → carriedOut d (served d o f .effect) ≡ d
   -- an accepted write leaves each entry with a value that it accepts
