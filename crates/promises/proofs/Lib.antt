@@ -49,6 +49,7 @@ pub mod Resets
 pub mod ResetsMet
 pub mod Node1
 pub mod Worked
+pub mod Codes
 pub mod Demand2
 pub mod Demand3
 pub mod FullLine

@@ -18,6 +18,7 @@ pub mod FiveSlots
 pub mod Gap
 pub mod Node1
 pub mod Worked
+pub mod Codes
 pub mod Demand1
 pub mod Demand2
 pub mod Demand3
