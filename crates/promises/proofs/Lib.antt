@@ -50,6 +50,7 @@ pub mod ResetsMet
 pub mod Node1
 pub mod Worked
 pub mod Codes
+pub mod Starts
 pub mod Demand2
 pub mod Demand3
 pub mod FullLine
