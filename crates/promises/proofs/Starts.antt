@@ -6,7 +6,8 @@ use mathlib.Core.Path.{_≡_, refl, sym, ap, _∙_}
 use mathlib.Core.Bool.{Bool, true, false, cond}
 use mathlib.Core.List.{List, [], _∷_, map}
 use mathlib.Core.Option.{some}
-use borrow.Author.Tests.{eqb-true}
+use mathlib.Core.Logic.{inr, ⊎-elim}
+use borrow.Author.Tests.{eqb-true, eqb-false}
 use Rattle.cases.specs.Tests.{within}
 use Rattle.entries.specs.declared.Device.{Device}
 use Rattle.entries.specs.declared.Identity.{Identity}
@@ -22,26 +23,33 @@ use Rattle.dictionary.proofs.Columns.{at-place}
 use Rattle.dictionary.proofs.Laws.{shows}
 use Rattle.sdo.specs.Request.{top, indexOf, subOf}
 use Rattle.sdo.specs.Request as request
-use Rattle.sdo.specs.Service.{due}
+use Rattle.sdo.specs.Service.{Due, none, value, confirmation, abort, due}
+use Rattle.sdo.specs.Worked.{bytes}
 use Rattle.sdo.proofs.Laws.{laws as sdo-laws}
 use Rattle.sdo.specs.declared.reply.Effect.{Effect}
 use Rattle.sdo.specs.declared.reply.Effect.the-variants.{Nothing, Reply, Write}
 use Rattle.sdo.specs.Reply.{carriedOut}
 use Rattle.parts.specs.declared.Head.{Head}
 use Rattle.promises.specs.States.{operational, isIn, restored, started, startedCore}
-use Rattle.promises.specs.Calls.{Call, slot, step, answered, noIdentity}
+use Rattle.promises.specs.Acts.{settledTo, act}
+use Rattle.promises.specs.Calls.{Call, receive, slot, step, answered, noIdentity}
 use Rattle.promises.specs.Valid.{Valid}
-use Rattle.promises.specs.Meant.{dueTo}
+use Rattle.promises.specs.Meant.{dueTo, Writes}
 use Rattle.promises.specs.Histories.{after, PowerUp, powered}
 use Rattle.promises.specs.Service.{replyDue}
+use Rattle.promises.specs.Resets.{Saves}
 use Rattle.promises.specs.Gap.{nodeOf}
+use Rattle.promises.specs.Node1.{node1, toNode1}
+use Rattle.promises.specs.Worked.{missing}
 use Rattle.promises.specs.Readings.{readsIn, dueShown}
-use Rattle.promises.specs.Starts.{identityOf, Line, firstReads, firstLines, reading, All, Reads, Starts}
+use Rattle.promises.specs.Starts.{identityOf, Line, firstReads, firstLines, reading, All, Reads, Starts, StartsMet}
 use Rattle.promises.proofs.Valid.{valid-step}
 use Rattle.promises.proofs.Meant.{core-step, resets}
 use Rattle.promises.proofs.Altered.{Altered, heard, timed, sent, refused, took, lost, restarted, served, altered}
 use Rattle.promises.proofs.Kept.{saved-after}
 use Rattle.promises.proofs.Histories.{valid-powered}
+use Rattle.promises.proofs.Demand1.{demand1}
+use Rattle.promises.proofs.Announced.{node-after}
 
 -- equal columns are equal at each place
 same-at : {A B C : Type 0} (f : A → C) (g : B → C) (l : List A) (m : List B) (a : A) (b : B) (p : ℕ) → f a ≡ g b → map f l ≡ map g m → f (getD l p a) ≡ g (getD m p b)
@@ -183,14 +191,43 @@ starts =
           let h : Head = after (powered p) cs in
           resets h f r m .settings ∙ ap (restored r (h .core .device .settings)) (saved-after (powered p) (valid-powered p) cs n ∙ saved-is p);
       same-identity = same-identity;
+      refused = λ p bad cs.
+          let r = demand1 .gives-4 (p .number) (p .identity) .1 bad in
+          let e : powered p ≡ started 1 noIdentity = demand1 .node-refused (p .number) (p .identity) (λ z. omega (arith, sym r ∙ z)) in
+          (node-after (powered p) cs ∙ ap (λ (h : Head). h .core .device .node) e, identity-after cs (powered p) (valid-powered p) ∙ ap (λ (h : Head). h .core .device .identity) e);
       identity-read = λ p cs.
           let h : Head = after (powered p) cs in
           let s = identity-shown (h .core .device) (isIn operational (h .core)) in
-          let e = same-identity p cs in
-          (
+          let e = same-identity p cs in (
             s .0 ∙ ap (λ (i : Identity). some (Number (i .vendor))) e,
             s .1 ∙ ap (λ (i : Identity). some (Number (i .product))) e,
             s .2 ∙ ap (λ (i : Identity). some (Number (i .revision))) e,
             s .3 ∙ ap (λ (i : Identity). some (Number (i .serial))) e,
           );
     }
+
+-- the entry that is written
+abbrev keyIn : Due → ℕ
+keyIn none = 0
+keyIn (value w m) = 0
+keyIn (confirmation k v) = k
+keyIn (abort code) = 0
+
+pub starts-met : StartsMet
+unfolding entries table lookup shownAt written due act settledTo
+starts-met =
+    record {
+      none-saves = (λ x. x, (λ x. x, (unsaving, (λ x. x, tt))));
+      reads-written = refl;
+      commands = record { hears = record { unrefused = refl; heard = refl }; identifier = refl; says = refl };
+      reads-again = refl;
+      bad-node = inr (omega arith);
+    }
+  where
+    -- the write is of 1017h
+    unsaving : Saves (after node1 missing) (receive (toNode1 (bytes 0x2B 0x17 0x10 0x00 0xE8 0x03 0 0))) → ⊥
+    unsaving s =
+        ⊎-elim
+        (λ (w : Writes _ _ 0x1010_01 (s .0)). eqb-false 0x1017_00 0x1010_01 refl (ap keyIn (w .accepted)))
+        (λ (w : Writes _ _ 0x1011_01 (s .0)). eqb-false 0x1017_00 0x1011_01 refl (ap keyIn (w .accepted)))
+        (s .1)

@@ -19,8 +19,8 @@ pub mod Gap
 pub mod Node1
 pub mod Worked
 pub mod Codes
-pub mod Starts
 pub mod Demand1
+pub mod Starts
 pub mod Demand2
 pub mod Demand3
 pub mod FullLine

@@ -12,14 +12,15 @@ use Rattle.entries.specs.declared.Identity.{Identity}
 use Rattle.entries.specs.Table.{table, index, sub, width}
 use Rattle.dictionary.specs.declared.read.Shown.{Shown}
 use Rattle.dictionary.specs.declared.read.Shown.the-variants.{Blank, Number}
-use Rattle.promises.specs.States.{Reset, restored, toReset}
+use Rattle.promises.specs.States.{Reset, ofNode, restored, toReset}
 use Rattle.promises.specs.Calls.{Call, slot, step, received}
 use Rattle.promises.specs.Meant.{Commands, dueTo}
 use Rattle.promises.specs.Histories.{after, PowerUp, powered}
 use Rattle.promises.specs.Readings.{readsIn, dueShown}
-use Rattle.promises.specs.Resets.{Saves, None}
+use Rattle.promises.specs.Resets.{Saves, None, beating}
 use Rattle.promises.specs.Gap.{nodeOf}
-use Rattle.promises.specs.Node1.{dataFrame}
+use Rattle.promises.specs.Node1.{node1, dataFrame, toAll}
+use Rattle.promises.specs.Demand1.{BadNode}
 
 -- The identity numbers of power-up; with a node number that is refused they are 0.
 abbrev pub identityOf : PowerUp → Identity
@@ -110,9 +111,21 @@ pub record Starts : Type 0 where
       → received h f .head .core .device .settings ≡ restored r (h .core .device .settings) (powered p .core .device .settings)
   -- Power-up takes .. four identity numbers; no call alters them.
   pub same-identity : (p : PowerUp) (cs : List Call) → after (powered p) cs .core .device .identity ≡ identityOf p
+  -- 4: .. and a head of node 1 with identity numbers 0
+  pub refused : (p : PowerUp) → BadNode (p .number) → (cs : List Call) → let d = after (powered p) cs .core .device in
+      (d .node ≡ 1) × (d .identity ≡ record { vendor = 0; product = 0; revision = 0; serial = 0 })
   -- 1018-1..4: identity
   pub identity-read : (p : PowerUp) (cs : List Call) → let h = after (powered p) cs in let i = identityOf p in
       (readsIn h 0x1018 1 ≡ some (Number (i .vendor)))
       × (readsIn h 0x1018 2 ≡ some (Number (i .product)))
       × (readsIn h 0x1018 3 ≡ some (Number (i .revision)))
       × (readsIn h 0x1018 4 ≡ some (Number (i .serial)))
+
+-- Node 1, Pre-operational, 1017h = 1,000: it is 0 again after 81h.
+pub record StartsMet : Type 0 where
+  pub none-saves : None Saves node1 beating
+  pub reads-written : readsIn (after node1 beating) 0x1017 0 ≡ some (Number 1000)
+  pub commands : Commands (after node1 beating) (toAll 0x81) (toReset ofNode)
+  pub reads-again : readsIn (received (after node1 beating) (toAll 0x81) .head) 0x1017 0 ≡ some (Number 0)
+  -- 128 is refused
+  pub bad-node : BadNode 128
