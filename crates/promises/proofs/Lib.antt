@@ -54,6 +54,8 @@ pub mod Beats
 pub mod Clocked
 pub mod Moments
 pub mod Worked
+pub mod Codes
+pub mod Starts
 pub mod Demand2
 pub mod Demand3
 pub mod FullLine

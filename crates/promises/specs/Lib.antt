@@ -19,7 +19,9 @@ pub mod FiveSlots
 pub mod Gap
 pub mod Node1
 pub mod Worked
+pub mod Codes
 pub mod Demand1
+pub mod Starts
 pub mod Demand2
 pub mod Demand3
 pub mod FullLine
