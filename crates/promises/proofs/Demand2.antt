@@ -1,6 +1,8 @@
 -- `Demand2` of specs/Demand2.antt.
 use Rattle.promises.specs.Demand2.{Demand2}
 use Rattle.promises.proofs.NetworkStates.{network-states}
+use Rattle.promises.proofs.Starts.{starts}
+use Rattle.promises.proofs.Codes.{codes}
 use Rattle.promises.proofs.Moments.{moments-so}
 use Rattle.promises.proofs.Service.{serves}
 use Rattle.promises.proofs.Replies.{answers}
@@ -14,7 +16,9 @@ use Rattle.promises.proofs.Worked.{worked, printed}
 pub demand2 : Demand2
 demand2 =
     record {
+      starts = starts;
       states = network-states;
+      codes = codes;
       resets = save-and-reset;
       moments = moments-so;
       error-list = error-list;

@@ -7,6 +7,8 @@ use Rattle.parts.specs.declared.Sensor.the-variants.{Missing}
 use Rattle.promises.specs.Calls.{Call}
 use Rattle.promises.specs.Histories.{after, PowerUp, powered, Reachable}
 use Rattle.promises.specs.NetworkStates.{NetworkStates}
+use Rattle.promises.specs.Starts.{Starts}
+use Rattle.promises.specs.Codes.{Codes}
 use Rattle.promises.specs.Moments.{Moments}
 use Rattle.promises.specs.Service.{Serves, Answers}
 use Rattle.promises.specs.Readings.{Tells, lastSample, Positioned}
@@ -16,8 +18,11 @@ use Rattle.promises.specs.ErrorList.{ErrorList}
 use Rattle.promises.specs.Worked.{Worked, Printed}
 
 pub record Demand2 : Type 0 where
-  -- The head behaves as CiA 301 and CiA 406 require in the form 01 gives them: its states; save, load and the two resets;
+  -- The head behaves as CiA 301 and CiA 406 require in the form 01 gives them: what it starts with; its states, and what the heartbeat
+  -- and the position frames say; save, load and the two resets;
+  pub starts : Starts
   pub states : NetworkStates
+  pub codes : Codes
   pub resets : Resets
   -- when each kind joins the waiting line;
   pub moments : (p : PowerUp) (cs : List Call) → Moments p cs
