@@ -46,7 +46,8 @@ shows c w y =
     let t = both (isIn operational c) (on (pdo (communication c) w .identifier)) (u .0) in
     record { operates = t .0; is-on = t .1; is-good = u .1 }
 
-own-identifier : (k : ℕ) → eqb (ownKey k) 0x1800_01 ≡ eqb k 0x1800_01
+-- 6200h is 1800-5, and no identifier
+pub own-identifier : (k : ℕ) → eqb (ownKey k) 0x1800_01 ≡ eqb k 0x1800_01
 own-identifier k = test (eqb k 0x6200_00) (λ e. rw (eqb-true k 0x6200_00 e)) (λ e. rw e)
 
 -- A write of v to the entry of key k: 1014h alters the emergency's condition, 1017h the heartbeat's, a PDO's sub 1 that of the PDO.

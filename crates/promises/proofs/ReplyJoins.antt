@@ -28,7 +28,7 @@ use Rattle.promises.specs.Valid.{waits, Valid}
 use Rattle.promises.specs.Effects.{takes, brings}
 use Rattle.promises.proofs.Waits.{has-those, holds-act}
 use Rattle.promises.proofs.Valid.{emergency-exactly}
-use Rattle.promises.proofs.Restarts.{own-identifier}
+use Rattle.promises.proofs.Conditions.{own-identifier}
 use Rattle.promises.proofs.Slots.{number-is}
 
 pub none-withdrawn : (ks : List ℕ) → withdraws [] ks ≡ []
