@@ -28,7 +28,7 @@ use Rattle.promises.proofs.States.{Fresh}
 use Rattle.promises.proofs.Valid.{valid-step}
 use Rattle.promises.proofs.Meant.{core-step}
 use Rattle.promises.proofs.Known.{framed, frames-by, sent-waits, known, known-boot-up}
-use Rattle.promises.proofs.Histories.{valid-powered}
+use Rattle.promises.proofs.Histories.{at-power-up, valid-powered}
 
 -- A request alters neither the node number nor the reading.
 pub carried : (d : Device) (e : Effect) → (carriedOut d e .node ≡ d .node) × (carriedOut d e .reading ≡ d .reading)
@@ -108,4 +108,4 @@ announced-after n (x ∷ cs) h last q v s =
 pub announced : (p : PowerUp) (cs : List Call) → Announced (nodeOf p) (lastEmergency (nodeOf p) (sent (powered p) cs)) (after (powered p) cs .core)
 announced p cs =
     announced-after (nodeOf p) cs (powered p) none (node-powered p) (valid-powered p)
-    (by (λ (a : Answer). Announced (nodeOf p) none (a .head .core)) (within 1 127 (p .number)) (λ _ _. unsaid) (λ _ _. unsaid))
+    (at-power-up (λ h. Announced (nodeOf p) none (h .core)) (λ _ _ _. unsaid) p)

@@ -14,7 +14,6 @@ use Rattle.entries.specs.declared.Device.{Device}
 use Rattle.entries.specs.declared.Reading.{Reading}
 use Rattle.entries.specs.Table.{entries, table, lookup}
 use Rattle.dictionary.specs.declared.read.Shown.the-variants.{Number}
-use Rattle.cases.specs.Tests.{within}
 use Rattle.dictionary.specs.Reads.{shownAt}
 use Rattle.dictionary.specs.Writes.{written}
 use Rattle.dictionary.specs.Laws.{Shows}
@@ -25,7 +24,6 @@ use Rattle.sdo.specs.Service.{Due, none, value, confirmation, abort, answer}
 use Rattle.sdo.specs.Laws.{Confirmed}
 use Rattle.sdo.proofs.Laws.{laws as sdo-laws}
 use Rattle.parts.specs.declared.Head.{Head}
-use Rattle.parts.specs.declared.Answer.{Answer}
 use Rattle.parts.specs.declared.Sensor.{Sensor}
 use Rattle.parts.specs.declared.Sensor.the-variants.{Missing, Raw}
 use Rattle.promises.specs.States.{operational, isIn}
@@ -38,7 +36,7 @@ use Rattle.promises.specs.Readings.{sampleBy, readingOf}
 use Rattle.promises.specs.ErrorList.{confirms, empties, lossesBy, losses, shownError, ErrorList}
 use Rattle.promises.proofs.Valid.{valid-step}
 use Rattle.promises.proofs.Altered.{Altered, heard, timed, sent, refused, took, lost, restarted, served, altered}
-use Rattle.promises.proofs.Histories.{valid-powered}
+use Rattle.promises.proofs.Histories.{at-power-up, valid-powered}
 use Rattle.promises.proofs.Service.{is-request}
 use Rattle.promises.proofs.Readings.{reading-step, reading-powered}
 use Rattle.promises.proofs.Positions.{written-by}
@@ -134,7 +132,7 @@ errors-after (c ∷ cs) h s n v p q =
     errors-after cs (step h c) (sampleBy s c) (lossesBy h s n c) (valid-step h c v) (reading-step h v s c p) (errors-step h s n p q v c)
 
 none-lost : (p : PowerUp) → powered p .core .device .errors ≡ 0
-none-lost p = by (λ (a : Answer). a .head .core .device .errors ≡ 0) (within 1 127 (p .number)) (λ _. refl) (λ _. refl)
+none-lost = at-power-up (λ h. h .core .device .errors ≡ 0) (λ _ _. refl)
 
 pub error-list : (p : PowerUp) (cs : List Call) → ErrorList p cs
 error-list p cs =

@@ -6,10 +6,12 @@ use mathlib.Core.Path.{_≡_, refl}
 use borrow.Author.Tests.{leb-true}
 use Rattle.cases.proofs.Cases.{by, both}
 use Rattle.entries.specs.declared.Identity.{Identity}
+use Rattle.cases.specs.Tests.{within}
 use Rattle.dictionary.specs.Valid.{ValidIdentity}
 use mathlib.Core.List.{List, [], _∷_, _++_}
 use Rattle.parts.specs.declared.Head.{Head}
 use Rattle.parts.specs.declared.Answer.{Answer}
+use Rattle.promises.specs.States.{started}
 use Rattle.promises.specs.Calls.{Call, step, noIdentity, poweredUp}
 use Rattle.promises.specs.Valid.{Valid}
 use Rattle.promises.specs.Histories.{after, PowerUp, powered, Reachable}
@@ -31,6 +33,10 @@ powered-valid n i v =
   where
     least : 0 ≤ 0xFFFFFFFF
     least = omega arith
+
+-- what holds of every head as power-up leaves it
+pub at-power-up {ℓ} : (P : Head → Type ℓ) → ((n : ℕ) (i : Identity) → P (started n i)) → (p : PowerUp) → P (powered p)
+at-power-up P s p = by (λ (a : Answer). P (a .head)) (within 1 127 (p .number)) (λ _. s (p .number) (p .identity)) (λ _. s 1 noIdentity)
 
 pub valid-powered : (p : PowerUp) → Valid (powered p)
 valid-powered p = powered-valid (p .number) (p .identity) (p .fits)

@@ -8,10 +8,8 @@ use mathlib.Core.List.{List, [], _∷_}
 use borrow.Author.Tests.{ne-eqb}
 use Rattle.cases.proofs.Cases.{by, test, true-false}
 use Rattle.can.specs.declared.Received.{Received}
-use Rattle.cases.specs.Tests.{within}
 use Rattle.parts.specs.declared.Core.{Core}
 use Rattle.parts.specs.declared.Head.{Head}
-use Rattle.parts.specs.declared.Answer.{Answer}
 use Rattle.parts.specs.declared.Sensor.the-variants.{Missing, Raw}
 use Rattle.promises.specs.States.{isInitialising, node, communication}
 use Rattle.promises.specs.WaitingLine.{Kind, emergency, sdoReply, heartbeat, tpdo, may}
@@ -28,7 +26,7 @@ use Rattle.promises.proofs.Answers.{AtSlot, booting, idling, sending, a
 use Rattle.promises.proofs.Meant.{core-step, inhibit-after, resets as resets-to}
 use Rattle.promises.proofs.Causes.{Cause, cause}
 use Rattle.promises.proofs.Unmeant.{not-meant}
-use Rattle.promises.proofs.Histories.{valid-powered}
+use Rattle.promises.proofs.Histories.{at-power-up, valid-powered}
 use Rattle.promises.proofs.Known.{framed, frames-by, sent-waits, known, known-boot-up}
 use Rattle.promises.proofs.Announced.{node-step, node-powered}
 use Rattle.promises.proofs.Spoken.{resets-so, resets-heard}
@@ -93,7 +91,7 @@ left-after n (x ∷ cs) h t q v e =
 pub inhibit-left : (p : PowerUp) (cs : List Call) → after (powered p) cs .core .timers .inhibit ≡ left (nodeOf p) (powered p) cs 0
 inhibit-left p cs =
     left-after (nodeOf p) cs (powered p) 0 (node-powered p) (valid-powered p)
-    (by (λ (a : Answer). a .head .core .timers .inhibit ≡ 0) (within 1 127 (p .number)) (λ _. refl) (λ _. refl))
+    (at-power-up (λ h. h .core .timers .inhibit ≡ 0) (λ _ _. refl) p)
 
 pub rounded-up : (v : ℕ) → 0 < v → (t : ℕ) × (inhibitTicks v ≡ t + 1) × (v ≤ t * 10) × (t * 10 < v + 10)
 rounded-up v some = ((v + 9) / 10, rw (ne-eqb v 0 (λ e. omega arith)), omega arith, omega arith)

@@ -7,7 +7,6 @@ use mathlib.Core.Bool.{Bool, true, not, cond}
 use mathlib.Core.List.{List, [], _∷_}
 use mathlib.Core.Option.{some}
 use borrow.Author.Tests.{eqb-true}
-use Rattle.cases.proofs.Cases.{by}
 use Rattle.position.specs.declared.Profile.{Profile}
 use Rattle.position.specs.Position.{position}
 use Rattle.entries.specs.declared.Device.{Device}
@@ -16,7 +15,6 @@ use Rattle.entries.specs.declared.table.Found.the-variants.{At}
 use Rattle.entries.specs.Table.{entries, table, lookup, rowAt, width}
 use Rattle.dictionary.specs.declared.read.Shown.{Shown}
 use Rattle.dictionary.specs.declared.read.Shown.the-variants.{Blank, Number}
-use Rattle.cases.specs.Tests.{within}
 use Rattle.dictionary.specs.Reads.{shownAt, reads}
 use Rattle.dictionary.specs.Writes.{written}
 use Rattle.dictionary.specs.Laws.{Shows}
@@ -27,7 +25,6 @@ use Rattle.sdo.specs.Request.{top, indexOf, subOf, reading}
 use Rattle.sdo.specs.Reply.{carriedOut}
 use Rattle.sdo.specs.Service.{value, abort, isBlank, numberIn, due}
 use Rattle.parts.specs.declared.Head.{Head}
-use Rattle.parts.specs.declared.Answer.{Answer}
 use Rattle.parts.specs.declared.Sensor.{Sensor}
 use Rattle.parts.specs.declared.Sensor.the-variants.{Missing, Raw}
 use Rattle.promises.specs.States.{operational, isIn, missingReading}
@@ -38,7 +35,7 @@ use Rattle.promises.specs.Service.{replyDue}
 use Rattle.promises.specs.Readings.{readsIn, profileOf, sampleBy, lastSample, readingOf, shownPosition, shownRegister, dueShown, Tells}
 use Rattle.promises.proofs.Valid.{valid-step}
 use Rattle.promises.proofs.Altered.{Altered, heard, timed, sent, refused, took, lost, restarted, served, altered}
-use Rattle.promises.proofs.Histories.{valid-powered}
+use Rattle.promises.proofs.Histories.{at-power-up, valid-powered}
 
 -- what is due to a read
 shown-due : (w : ℕ) (s : Shown) → cond (isBlank s) (abort 0x08000024) (value w (numberIn s)) ≡ dueShown w s
@@ -114,7 +111,7 @@ reading-after (c ∷ cs) h s v e = reading-after cs (step h c) (sampleBy s c) (v
 
 -- at power-up the reading is missing
 pub reading-powered : (p : PowerUp) → powered p .core .device .reading ≡ missingReading
-reading-powered p = by (λ (a : Answer). a .head .core .device .reading ≡ missingReading) (within 1 127 (p .number)) (λ _. refl) (λ _. refl)
+reading-powered = at-power-up (λ h. h .core .device .reading ≡ missingReading) (λ _ _. refl)
 
 tells-of : (h : Head) (s : Sensor) → h .core .device .reading ≡ readingOf s → Tells h s
 tells-of h s e =

@@ -11,7 +11,6 @@ use Rattle.cases.proofs.Cases.{by, by₂, test, both, true-false}
 use Rattle.can.specs.declared.Frame.{Frame}
 use Rattle.can.specs.declared.Received.{Received}
 use Rattle.entries.specs.declared.Device.{Device}
-use Rattle.cases.specs.Tests.{within}
 use Rattle.dictionary.specs.Writes.{written}
 use Rattle.sdo.specs.declared.reply.Effect.{Effect}
 use Rattle.sdo.specs.declared.reply.Effect.the-variants.{Nothing, Reply, Write}
@@ -22,7 +21,6 @@ use Rattle.waiting.specs.Line.{has, first}
 use Rattle.waiting.specs.Places.{waiting}
 use Rattle.waiting.proofs.After.{has-append}
 use Rattle.parts.specs.declared.Head.{Head}
-use Rattle.parts.specs.declared.Answer.{Answer}
 use Rattle.parts.specs.declared.Sensor.the-variants.{Missing, Raw}
 use Rattle.promises.specs.States.{operational, stopped, preOperational, isIn, isInitialising, live, isLive, node, Command, noCommand, toEnter, toReset, commandOf}
 use Rattle.promises.specs.WaitingLine.{Kind, emergency, sdoReply, heartbeat, tpdo, number, kindOf, frameOf}
@@ -39,7 +37,7 @@ use Rattle.promises.proofs.Valid.{valid-step}
 use Rattle.promises.proofs.Slots.{boots, sends-first}
 use Rattle.promises.proofs.Slots as slots
 use Rattle.promises.proofs.Meant.{enters, resets, leaves, reply-fixed}
-use Rattle.promises.proofs.Histories.{valid-after, valid-powered}
+use Rattle.promises.proofs.Histories.{at-power-up, valid-after, valid-powered}
 use Rattle.promises.proofs.Identifiers.{identifies, only-reply, which}
 use Rattle.promises.proofs.Altered.{Altered, heard, timed, sent, refused, took, lost, restarted, served, altered}
 use Rattle.promises.proofs.Service.{JoinsNot, heard-as, is-request, gets-what-is-due, unanswered}
@@ -237,7 +235,7 @@ no-more n (c ∷ cs) h v q =
 
 -- at power-up none waits
 none-owed : (p : PowerUp) → pending (powered p) ≡ none
-none-owed p = by (λ (a : Answer). pending (a .head) ≡ none) (within 1 127 (p .number)) (λ _. refl) (λ _. refl)
+none-owed = at-power-up (λ h. pending h ≡ none) (λ _ _. refl)
 
 module _ (p : PowerUp) (cs : List Call) where
   exactly : pending (after (powered p) cs) ≡ owed (powered p) none cs
