@@ -85,7 +85,7 @@ five-slots =
       once = λ h r. valid-reachable h r .line .kinds;
       only-while = λ h r. valid-reachable h r .only;
       lines-up = λ h r c. lined h (valid-reachable h r) c;
-      boots = λ h r i cs z. boots (node (h .core)) cs h (valid-reachable h r) (i, refl) z;
+      boots = λ h r i cs z. boots (node (h .core)) cs h (valid-reachable h r) i refl z;
       answers = λ h r. answers h (valid-reachable h r);
       none-exactly = λ h r. none-exactly h (valid-reachable h r);
     }

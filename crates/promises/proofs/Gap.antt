@@ -30,7 +30,8 @@ use Rattle.promises.proofs.Inhibit.{inhibit-left, rounded-up}
 use Rattle.promises.proofs.Relief.{Relief, halted, restarted, no-relief, stays-missing}
 use Rattle.promises.proofs.Hidden.{no-position, no-position-at-first}
 use Rattle.promises.proofs.Known.{known, known-boot-up}
-use Rattle.promises.proofs.Announced.{node-step, node-after, node-powered, announced}
+use Rattle.promises.proofs.SameNode.{node-step, node-after, node-powered}
+use Rattle.promises.proofs.Announced.{announced}
 
 -- Missing, and announced or not held back by an inhibit time.
 record Pending (c : Core) : Type 0 where
@@ -130,7 +131,7 @@ module _ {n : ℕ} where
       let u = g .unrelieved in
       record {
         valid = valid-step h x (g .valid);
-        its-node = node-step h x ∙ g .its-node;
+        its-node = node-step h (g .valid) x ∙ g .its-node;
         pending = rw (core-step h x) (pending-act (h .core) (meant h x) (no-relief-now g) (g .pending));
         unrelieved = record {
           missing = neither (isGoodSample x) (among isGoodSample cs) (u .missing) .1;
@@ -179,7 +180,7 @@ gap-is-told p before cs live lost free u enough =
     let h : Head = after (powered p) before in
     let g : Gapped (nodeOf p) h cs = record {
       valid = valid-after (powered p) before (valid-powered p);
-      its-node = node-after (powered p) before ∙ node-powered p;
+      its-node = node-after (powered p) (valid-powered p) before ∙ node-powered p;
       pending = record { alive = live; lost = lost; free = inr free };
       unrelieved = u;
     } in
@@ -223,4 +224,4 @@ gap =
     valid p cs = valid-after (powered p) cs (valid-powered p)
 
     its-node : (p : PowerUp) (cs : List Call) → node (after (powered p) cs .core) ≡ nodeOf p
-    its-node p cs = node-after (powered p) cs ∙ node-powered p
+    its-node p cs = node-after (powered p) (valid-powered p) cs ∙ node-powered p

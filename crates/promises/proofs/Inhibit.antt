@@ -28,7 +28,7 @@ use Rattle.promises.proofs.Causes.{Cause, cause}
 use Rattle.promises.proofs.Unmeant.{not-meant}
 use Rattle.promises.proofs.Histories.{at-power-up, valid-powered}
 use Rattle.promises.proofs.Known.{framed, frames-by, sent-waits, known, known-boot-up}
-use Rattle.promises.proofs.Announced.{node-step, node-powered}
+use Rattle.promises.proofs.SameNode.{node-step, node-powered}
 use Rattle.promises.proofs.Spoken.{resets-so, resets-heard}
 
 module _ (n : ℕ) (h : Head) (q : node (h .core) ≡ n) (v : Valid h) where
@@ -86,7 +86,7 @@ module _ (n : ℕ) (h : Head) (q : node (h .core) ≡ n) (v : Valid h) where
 left-after : (n : ℕ) (cs : List Call) (h : Head) (t : ℕ) → node (h .core) ≡ n → Valid h → h .core .timers .inhibit ≡ t → after h cs .core .timers .inhibit ≡ left n h cs t
 left-after n [] h t q v e = e
 left-after n (x ∷ cs) h t q v e =
-    left-after n cs (step h x) (leftBy n h x t) (node-step h x ∙ q) (valid-step h x v) (left-step n h q v x ∙ ap (leftBy n h x) e)
+    left-after n cs (step h x) (leftBy n h x t) (node-step h v x ∙ q) (valid-step h x v) (left-step n h q v x ∙ ap (leftBy n h x) e)
 
 pub inhibit-left : (p : PowerUp) (cs : List Call) → after (powered p) cs .core .timers .inhibit ≡ left (nodeOf p) (powered p) cs 0
 inhibit-left p cs =

@@ -12,12 +12,14 @@ pub mod Unmeant
 pub mod Slots
 pub mod Meant
 pub mod Causes
+pub mod Altered
 pub mod Answers
 pub mod Conditions
 pub mod Withdrawals
 pub mod NetworkStates
 pub mod Histories
 pub mod Demand1
+pub mod SameNode
 pub mod Turns
 pub mod Departures
 pub mod Lined
@@ -31,7 +33,6 @@ pub mod Relief
 pub mod Hidden
 pub mod Gap
 pub mod Identifiers
-pub mod Altered
 pub mod Service
 pub mod Replies
 pub mod Readings

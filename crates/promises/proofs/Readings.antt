@@ -16,13 +16,9 @@ use Rattle.entries.specs.Table.{entries, table, lookup, rowAt, width}
 use Rattle.dictionary.specs.declared.read.Shown.{Shown}
 use Rattle.dictionary.specs.declared.read.Shown.the-variants.{Blank, Number}
 use Rattle.dictionary.specs.Reads.{shownAt, reads}
-use Rattle.dictionary.specs.Writes.{written}
 use Rattle.dictionary.specs.Laws.{Shows}
 use Rattle.dictionary.proofs.Laws.{shows}
-use Rattle.sdo.specs.declared.reply.Effect.{Effect}
-use Rattle.sdo.specs.declared.reply.Effect.the-variants.{Nothing, Reply, Write}
 use Rattle.sdo.specs.Request.{top, indexOf, subOf, reading}
-use Rattle.sdo.specs.Reply.{carriedOut}
 use Rattle.sdo.specs.Service.{value, abort, isBlank, numberIn, due}
 use Rattle.parts.specs.declared.Head.{Head}
 use Rattle.parts.specs.declared.Sensor.{Sensor}
@@ -34,7 +30,7 @@ use Rattle.promises.specs.Histories.{after, PowerUp, powered}
 use Rattle.promises.specs.Service.{replyDue}
 use Rattle.promises.specs.Readings.{readsIn, profileOf, sampleBy, lastSample, readingOf, shownPosition, shownRegister, dueShown, Tells}
 use Rattle.promises.proofs.Valid.{valid-step}
-use Rattle.promises.proofs.Altered.{Altered, heard, timed, sent, refused, took, lost, restarted, served, altered}
+use Rattle.promises.proofs.Altered.{Altered, heard, timed, sent, refused, took, lost, restarted, served, carried, altered}
 use Rattle.promises.proofs.Histories.{at-power-up, valid-powered}
 
 -- what is due to a read
@@ -84,13 +80,6 @@ blank-by : (p : Profile) (s : Sensor) → (some (shownPosition p s) ≡ some Bla
 blank-by p Missing = (λ _. refl, λ _. refl)
 blank-by p (Raw r) = (λ e. absurd (let z : _≡_ {A = ℕ} 0 1 = cc in omega arith), λ e. absurd (let z : _≡_ {A = ℕ} 0 1 = cc in omega arith))
 
--- no request alters the reading
-reading-carried : (d : Device) (e : Effect) → carriedOut d e .reading ≡ d .reading
-unfolding written
-reading-carried d Nothing = refl
-reading-carried d Reply = refl
-reading-carried d (Write k v) = refl
-
 reading-by : (h : Head) (s : Sensor) (c : Call) (d : Device) → h .core .device .reading ≡ readingOf s → Altered h c d → d .reading ≡ readingOf (sampleBy s c)
 reading-by h s _ _ e (heard f) = e
 reading-by h s _ _ e timed = e
@@ -99,7 +88,7 @@ reading-by h s _ _ e (refused r b) = e ∙ ap (λ (t : Bool). readingOf (cond t 
 reading-by h s _ _ e (took r b) = ap (λ (t : Bool). readingOf (cond t s (Raw r))) (sym b)
 reading-by h s _ _ e lost = refl
 reading-by h s _ _ e (restarted f r x) = e
-reading-by h s _ _ e (served f x) = reading-carried (h .core .device) (replyDue h f .effect) ∙ e
+reading-by h s _ _ e (served f x) = carried (h .core .device) (replyDue h f .effect) .1 ∙ e
 
 pub reading-step : (h : Head) → Valid h → (s : Sensor) (c : Call) → h .core .device .reading ≡ readingOf s → step h c .core .device .reading ≡ readingOf (sampleBy s c)
 reading-step h v s c e = reading-by h s c (step h c .core .device) e (altered h v c)

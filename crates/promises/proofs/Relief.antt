@@ -20,7 +20,7 @@ use Rattle.promises.specs.Meant.{Commands}
 use Rattle.promises.specs.Gap.{isGoodSample, isCommand, stopsOrResets}
 use Rattle.promises.proofs.Causes.{Cause, cause}
 use Rattle.promises.proofs.Spoken.{commands-so}
-use Rattle.promises.proofs.Announced.{carried}
+use Rattle.promises.proofs.Altered.{carried}
 
 module _ (n : ℕ) (h : Head) (f : Received) (q : node (h .core) ≡ n) where
   stops-so : Commands h f (toEnter stopped) → isCommand n stopsOrResets (receive f) ≡ true

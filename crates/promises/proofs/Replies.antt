@@ -10,12 +10,8 @@ use borrow.Author.Tests.{eqb-true, eq-eqb, not-true}
 use Rattle.cases.proofs.Cases.{by, by₂, test, both, true-false}
 use Rattle.can.specs.declared.Frame.{Frame}
 use Rattle.can.specs.declared.Received.{Received}
-use Rattle.entries.specs.declared.Device.{Device}
-use Rattle.dictionary.specs.Writes.{written}
-use Rattle.sdo.specs.declared.reply.Effect.{Effect}
-use Rattle.sdo.specs.declared.reply.Effect.the-variants.{Nothing, Reply, Write}
 use Rattle.sdo.specs.Request.{aborting}
-use Rattle.sdo.specs.Reply.{replies, carriedOut}
+use Rattle.sdo.specs.Reply.{replies}
 use Rattle.waiting.specs.Line as line
 use Rattle.waiting.specs.Line.{has, first}
 use Rattle.waiting.specs.Places.{waiting}
@@ -39,7 +35,7 @@ use Rattle.promises.proofs.Slots as slots
 use Rattle.promises.proofs.Meant.{enters, resets, leaves, reply-fixed}
 use Rattle.promises.proofs.Histories.{at-power-up, valid-after, valid-powered}
 use Rattle.promises.proofs.Identifiers.{identifies, only-reply, which}
-use Rattle.promises.proofs.Altered.{Altered, heard, timed, sent, refused, took, lost, restarted, served, altered}
+use Rattle.promises.proofs.SameNode.{node-step, node-after}
 use Rattle.promises.proofs.Service.{JoinsNot, heard-as, is-request, gets-what-is-due, unanswered}
 
 -- what a slot sends as a reply was the first in the line
@@ -175,27 +171,6 @@ pending-after : (cs : List Call) (h : Head) → Valid h → pending (after h cs)
 pending-after [] h v = refl
 pending-after (c ∷ cs) h v = pending-after cs (step h c) (valid-step h c v) ∙ ap (λ (o : Option (List ℕ)). owed (step h c) o cs) (pending-step h v c)
 
--- the node number stays
-node-carried : (d : Device) (e : Effect) → carriedOut d e .node ≡ d .node
-unfolding written
-node-carried d Nothing = refl
-node-carried d Reply = refl
-node-carried d (Write k v) = refl
-
-node-by : (h : Head) (c : Call) (d : Device) → Altered h c d → d .node ≡ node (h .core)
-node-by h _ _ (heard f) = refl
-node-by h _ _ timed = refl
-node-by h _ _ sent = refl
-node-by h _ _ (refused r b) = refl
-node-by h _ _ (took r b) = refl
-node-by h _ _ lost = refl
-node-by h _ _ (restarted f r x) = refl
-node-by h _ _ (served f x) = node-carried (h .core .device) (replyDue h f .effect)
-
-node-after : (cs : List Call) (h : Head) → Valid h → node (after h cs .core) ≡ node (h .core)
-node-after [] h v = refl
-node-after (c ∷ cs) h v = node-after cs (step h c) (valid-step h c v) ∙ node-by h c (step h c .core .device) (altered h v c)
-
 -- No more replies are sent than requests are answered: the one that waits is still to be sent.
 abbrev still : Option (List ℕ) → ℕ
 still none = 0
@@ -230,7 +205,7 @@ module _ (h : Head) (v : Valid h) (n : ℕ) (q : node (h .core) ≡ n) where
 no-more : (n : ℕ) (cs : List Call) (h : Head) → Valid h → node (h .core) ≡ n → repliesIn n (sentIn h cs) ≤ still (pending h) + answeredIn h cs
 no-more n [] h v q = omega arith
 no-more n (c ∷ cs) h v q =
-    let tail = no-more n cs (step h c) (valid-step h c v) (node-by h c (step h c .core .device) (altered h v c) ∙ q) in
+    let tail = no-more n cs (step h c) (valid-step h c v) (node-step h v c ∙ q) in
     omega (arith, replies-append n (frames h c) (sentIn (step h c) cs), reply-by h v n q c, tail, ap still (pending-step h v c))
 
 -- at power-up none waits
@@ -264,5 +239,5 @@ module _ (p : PowerUp) (cs : List Call) where
           let frame : slotted h .frame ≡ replyFrame (node (h .core)) (h .core .reply) = slots.answers h (sends-first h v (u .0) sdoReply (u .1)) .1 in (
             h .core .reply,
             sym exactly ∙ ap (λ (t : Bool). cond t (some (h .core .reply)) none) (u .2),
-            frame ∙ ap (λ (n : ℕ). replyFrame n (h .core .reply)) (node-after cs (powered p) (valid-powered p)),
+            frame ∙ ap (λ (n : ℕ). replyFrame n (h .core .reply)) (node-after (powered p) (valid-powered p) cs),
           )
