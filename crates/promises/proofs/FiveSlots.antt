@@ -68,7 +68,7 @@ answers h v = by-act (meant h slot) (at-slot h v)
     by-act : (a : Act) → AtSlot h a → Answered h (isFrame (frameBy (h .core) a)) (frameIn (frameBy (h .core) a))
     by-act boot (booting i) = boot-up i (none-waits h v i)
     by-act idle (idling i e) = none i e
-    by-act (send k) (sending j i e) = kind k i e
+    by-act (send k) (sending j i e w) = kind k i e
 
 none-exactly : (h : Head) → Valid h → (slotted h .waited ≡ false) ↔ ((isInitialising (h .core) ≡ false) × ((k : Kind) → waits h k ≡ false))
 none-exactly h v =

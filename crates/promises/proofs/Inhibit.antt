@@ -21,13 +21,12 @@ use Rattle.promises.specs.Meant.{not-booted}
 use Rattle.promises.specs.Histories.{after, PowerUp, powered}
 use Rattle.promises.specs.Gap.{nodeOf, among, isEmergency, isCommand, resets, leftBy, left}
 use Rattle.promises.proofs.Valid.{valid-step}
-use Rattle.promises.proofs.Slots.{sends-first}
 use Rattle.promises.proofs.Answers.{AtSlot, booting, idling, sending, at-slot}
 use Rattle.promises.proofs.Meant.{core-step, inhibit-after, resets as resets-to}
 use Rattle.promises.proofs.Causes.{Cause, cause}
 use Rattle.promises.proofs.Unmeant.{not-meant}
 use Rattle.promises.proofs.Histories.{at-power-up, valid-powered}
-use Rattle.promises.proofs.Known.{framed, frames-by, sent-waits, known, known-boot-up}
+use Rattle.promises.proofs.Known.{framed, frames-by, known, known-boot-up}
 use Rattle.promises.proofs.SameNode.{node-step, node-powered}
 use Rattle.promises.proofs.Spoken.{resets-so, resets-heard}
 
@@ -71,7 +70,7 @@ module _ (n : ℕ) (h : Head) (q : node (h .core) ≡ n) (v : Valid h) where
   left-slot : (a : Act) → AtSlot h a → Left a
   left-slot boot (booting i) = rw (known-boot-up n c q (v .device) .emergency) (sym (none-runs i))
   left-slot idle (idling i e) = refl
-  left-slot (send k) (sending j i e) = left-sent k (v .only k (sent-waits h v slot k (sends-first h v i k e)))
+  left-slot (send k) (sending j i e w) = left-sent k (v .only k w)
 
   left-step : (x : Call) → step h x .core .timers .inhibit ≡ leftBy n h x (c .timers .inhibit)
   left-step (receive f) =

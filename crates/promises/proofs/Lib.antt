@@ -32,7 +32,6 @@ pub mod Inhibit
 pub mod Relief
 pub mod Hidden
 pub mod Gap
-pub mod Identifiers
 pub mod Service
 pub mod Replies
 pub mod Readings

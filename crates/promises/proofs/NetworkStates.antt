@@ -50,7 +50,7 @@ module _ (h : Head) (v : Valid h) where
   by-slot : (a : Act) → AtSlot h a → Enters h slot (After a) ⊎ (After a ≡ h .core .nmt)
   by-slot boot (booting i) = inl (by-boot-up i)
   by-slot idle (idling i e) = inr refl
-  by-slot (send k) (sending j i e) = inr (sent k)
+  by-slot (send k) (sending j i e w) = inr (sent k)
 
   only-so : (c : Call) → Enters h c (step h c .core .nmt) ⊎ (step h c .core .nmt ≡ h .core .nmt)
   only-so (receive f) = rw (core-step h (receive f)) (by-frame f (meant h (receive f)) (cause h f v))

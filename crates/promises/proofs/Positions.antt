@@ -1,14 +1,13 @@
 -- The position is 01's formula, an accepted preset makes it read the preset, and a position frame carries what 6004h reads: `positioned`, of specs/Readings.antt.
-use Prim.Native.Nat.{ℕ, _<_, _≤_}
+use Prim.Native.Nat.{ℕ, _<_}
 use native.Mathlib.Omega.{arith}
-use lib.Dec.{eqb, leb}
+use lib.Dec.{eqb}
 use mathlib.Core.Path.{_≡_, refl, sym, ap, _∙_}
-use mathlib.Core.Bool.{Bool, true, false, not, _&&_, _||_, cond}
+use mathlib.Core.Bool.{Bool, true, false, not, _||_, cond}
 use mathlib.Core.List.{List, [], _∷_}
 use mathlib.Core.Option.{Option, some}
-use borrow.Author.Tests.{leb-true, not-false}
-use Rattle.cases.proofs.Cases.{test, both, neither}
-use Rattle.can.specs.declared.Frame.{Frame}
+use borrow.Author.Tests.{not-false}
+use Rattle.cases.proofs.Cases.{test, neither, true-false}
 use Rattle.can.specs.declared.Received.{Received}
 use Rattle.can.proofs.Number.{numbers}
 use Rattle.position.specs.declared.Profile.{Profile}
@@ -20,7 +19,7 @@ use Rattle.entries.specs.Table.{missing, rowAt}
 use Rattle.dictionary.specs.declared.read.Shown.{Shown}
 use Rattle.dictionary.specs.declared.read.Shown.the-variants.{Blank, Number}
 use Rattle.cases.specs.Tests.{within}
-use Rattle.dictionary.specs.Accepted.{on, barred}
+use Rattle.dictionary.specs.Accepted.{barred}
 use Rattle.dictionary.specs.Writes.{rescales, written}
 use Rattle.dictionary.proofs.Accepted.{taken}
 use Rattle.dictionary.proofs.Laws.{laws as dictionary-laws}
@@ -31,22 +30,23 @@ use Rattle.sdo.proofs.Laws.{laws as sdo-laws}
 use Rattle.parts.specs.declared.Core.{Core}
 use Rattle.parts.specs.declared.Head.{Head}
 use Rattle.parts.specs.declared.Sensor.the-variants.{Missing, Raw}
-use Rattle.promises.specs.States.{operational, code, isIn, isInitialising, communication, good, pdo, ofNode, ofCommunication}
+use Rattle.promises.specs.States.{operational, isIn, node, good, ofNode, ofCommunication}
 use Rattle.promises.specs.WaitingLine.{Kind, emergency, sdoReply, heartbeat, tpdo, frameOf}
-use Rattle.promises.specs.Acts.{serve, acted}
-use Rattle.promises.specs.Calls.{Call, receive, served, meant, step, received, slotted}
+use Rattle.promises.specs.Acts.{Act, boot, idle, send, serve, acted, frameBy}
+use Rattle.promises.specs.Calls.{Call, receive, slot, served, meant, step, isFrame, frameIn, received, slotted}
 use Rattle.promises.specs.Valid.{waits, Valid}
 use Rattle.promises.specs.Meant.{dueTo, Writes}
 use Rattle.promises.specs.Histories.{after, Reachable}
+use Rattle.promises.specs.Gap.{isPosition, showsPosition}
 use Rattle.promises.specs.Readings.{readsIn, profileOf, repositions, Moves, Unmoved, samples, writes, resets, Carries, Positioned}
 use Rattle.promises.proofs.Valid.{valid-step}
-use Rattle.promises.proofs.Slots.{boots, sends-first}
-use Rattle.promises.proofs.Slots as slots
 use Rattle.promises.proofs.Meant.{core-step}
 use Rattle.promises.proofs.Causes.{requests}
+use Rattle.promises.proofs.Answers.{AtSlot, booting, idling, sending, at-slot}
+use Rattle.promises.proofs.Conditions.{shows}
 use Rattle.promises.proofs.Altered.{Altered, heard, timed, sent, refused, took, lost, restarted, served as is-served, altered}
 use Rattle.promises.proofs.Histories.{valid-reachable}
-use Rattle.promises.proofs.Identifiers.{which}
+use Rattle.promises.proofs.Known.{known, known-boot-up}
 use Rattle.promises.proofs.Readings.{position-shown}
 
 -- what 6004h reads of a device
@@ -117,39 +117,33 @@ module _ (h : Head) (v : Valid h) where
       position-shown (step h c .core .device) _ ∙ kept c (step h c .core .device) n (altered h v c)
       ∙ sym (position-shown (h .core .device) _)
 
-  -- a frame in 181h..57Fh is a position frame
-  module _ (low : 0x181 ≤ slotted h .frame .identifier) (high : slotted h .frame .identifier ≤ 0x57F) where
-    carries-as : (k : Kind) → waits h k ≡ true → slotted h .frame ≡ frameOf (h .core) k → Carries h (slotted h .frame)
-    carries-as emergency w e = absurd (omega (arith, low, v .device .node-high, ap (λ (f : Frame). f .identifier) e))
-    carries-as sdoReply w e = absurd (omega (arith, high, v .device .node-low, ap (λ (f : Frame). f .identifier) e))
-    carries-as heartbeat w e = absurd (omega (arith, high, ap (λ (f : Frame). f .identifier) e))
-    carries-as (tpdo which) w e =
-        let d = h .core .device in
-        let p = d .settings .profile in
-        let i = pdo (communication (h .core)) which .identifier in
-        let fine = both (eqb (h .core .nmt .code) (code operational) && on i) (good (h .core)) (v .only (tpdo which) w) .1 in
-        let below : position p (d .reading .raw) < 0x100000000 =
-        omega (arith, position-laws .positions p (d .reading .raw) (v .device .settings .profile) .below, v .device .settings .profile .high) in
-        record {
-          which = which;
-          identifier = ap (λ (f : Frame). f .identifier) e;
-          length = ap (λ (f : Frame). f .length) e;
-          position = position p (d .reading .raw);
-          reads-it = position-shown d _ ∙ shows-good d fine;
-          its-bytes = ap (λ (f : Frame). f .bytes) e;
-          whole = numbers .back 4 (position p (d .reading .raw)) below;
-        }
+  -- a position frame is that of a PDO
+  carries-as : (k : Kind) → waits h k ≡ true → showsPosition k ≡ true → Carries h (frameOf (h .core) k)
+  carries-as emergency w e = true-false (sym e)
+  carries-as sdoReply w e = true-false (sym e)
+  carries-as heartbeat w e = true-false (sym e)
+  carries-as (tpdo which) w e =
+      let d = h .core .device in
+      let p = d .settings .profile in
+      let below : position p (d .reading .raw) < 0x100000000 =
+      omega (arith, position-laws .positions p (d .reading .raw) (v .device .settings .profile) .below, v .device .settings .profile .high) in
+      record {
+        which = which;
+        identifier = refl;
+        length = refl;
+        position = position p (d .reading .raw);
+        reads-it = position-shown d _ ∙ shows-good d (shows (h .core) which (v .only (tpdo which) w) .is-good);
+        its-bytes = refl;
+        whole = numbers .back 4 (position p (d .reading .raw)) below;
+      }
 
   carries : slotted h .waited ≡ true → within 0x181 0x57F (slotted h .frame .identifier) ≡ true → Carries h (slotted h .frame)
-  carries w b =
-      let i = slotted h .frame .identifier in
-      let u = both (leb 0x181 i) (leb i 0x57F) b in
-      let high : i ≤ 0x57F = leb-true _ _ (u .1) in
-      test (isInitialising (h .core))
-      (λ s. absurd (omega (arith, high, ap (λ (f : Frame). f .identifier) (slots.answers h (boots h s) .1))))
-      (λ s.
-      let k = which h v s w in
-      carries-as (leb-true _ _ (u .0)) high (k .0) (k .2) (slots.answers h (sends-first h v s (k .0) (k .1)) .1))
+  carries = by-act (meant h slot) (at-slot h v)
+    where
+      by-act : (a : Act) → AtSlot h a → let x = frameBy (h .core) a in isFrame x ≡ true → isPosition (frameIn x) ≡ true → Carries h (frameIn x)
+      by-act boot (booting i) f b = true-false (sym b ∙ known-boot-up (node (h .core)) (h .core) refl (v .device) .position)
+      by-act idle (idling i e) f b = true-false (sym f)
+      by-act (send k) (sending _ i e w) f b = carries-as k w (sym (known (node (h .core)) (h .core) refl (v .device) k (v .only k w) .position) ∙ b)
 
 stays : (cs : List Call) (h : Head) → Valid h → Unmoved h cs → readsIn (after h cs) 0x6004 0 ≡ readsIn h 0x6004 0
 stays [] h v u = refl

@@ -19,9 +19,9 @@ use Rattle.waiting.proofs.After.{has-append}
 use Rattle.parts.specs.declared.Head.{Head}
 use Rattle.parts.specs.declared.Sensor.the-variants.{Missing, Raw}
 use Rattle.promises.specs.States.{operational, stopped, preOperational, isIn, isInitialising, live, isLive, node, Command, noCommand, toEnter, toReset, commandOf}
-use Rattle.promises.specs.WaitingLine.{Kind, emergency, sdoReply, heartbeat, tpdo, number, kindOf, frameOf}
-use Rattle.promises.specs.Acts.{Act, send, acted}
-use Rattle.promises.specs.Calls.{Call, receive, tick, sample, slot, isSlot, commanded, meant, step, slotted}
+use Rattle.promises.specs.WaitingLine.{Kind, emergency, sdoReply, heartbeat, tpdo, number, kindOf}
+use Rattle.promises.specs.Acts.{Act, boot, idle, send, acted, frameBy}
+use Rattle.promises.specs.Calls.{Call, receive, tick, sample, slot, isSlot, commanded, meant, step, isFrame, frameIn, slotted}
 use Rattle.promises.specs.Valid.{waits, Valid}
 use Rattle.promises.specs.Meant.{Commands}
 use Rattle.promises.specs.Histories.{after, frames, sent as sentIn, PowerUp, powered}
@@ -30,30 +30,30 @@ use Rattle.promises.proofs.Waits.{sends, waits-act}
 use Rattle.promises.proofs.Hearing.{heard-by}
 use Rattle.promises.proofs.States.{not-live}
 use Rattle.promises.proofs.Valid.{valid-step}
-use Rattle.promises.proofs.Slots.{boots, sends-first}
+use Rattle.promises.proofs.Slots.{sends-first}
 use Rattle.promises.proofs.Slots as slots
+use Rattle.promises.proofs.Answers.{AtSlot, booting, idling, sending, at-slot}
 use Rattle.promises.proofs.Meant.{enters, resets, leaves, reply-fixed}
 use Rattle.promises.proofs.Histories.{at-power-up, valid-after, valid-powered}
-use Rattle.promises.proofs.Identifiers.{identifies, only-reply, which}
+use Rattle.promises.proofs.Known.{only-reply}
 use Rattle.promises.proofs.SameNode.{node-step, node-after}
 use Rattle.promises.proofs.Service.{JoinsNot, heard-as, is-request, gets-what-is-due, unanswered}
 
 -- what a slot sends as a reply was the first in the line
 replies-first : (h : Head) → Valid h → sendsReply h ≡ true
     → (isInitialising (h .core) ≡ false) × (first (waiting (h .line)) ≡ number sdoReply) × (waits h sdoReply ≡ true)
-replies-first h v e =
-    let n = node (h .core) in
-    let u = both (slotted h .waited) (eqb (slotted h .frame .identifier) (0x580 + n)) e in
-    let i : slotted h .frame .identifier ≡ 0x580 + n = eqb-true _ _ (u .1) in
-    test (isInitialising (h .core))
-    (λ s. let b : slotted h .frame .identifier ≡ 0x700 + n = ap (λ (x : Frame). x .identifier) (slots.answers h (boots h s) .1) in absurd (omega (arith, i, b)))
-    (λ s.
-    let k = which h v s (u .0) in
-    let frame : slotted h .frame .identifier ≡ frameOf (h .core) (k .0) .identifier =
-    ap (λ (x : Frame). x .identifier) (slots.answers h (sends-first h v s (k .0) (k .1)) .1) in
-    let reply : k .0 ≡ sdoReply =
-    only-reply (k .0) n (v .device .node-high) (rw (sym frame ∙ i) at (identifies h v (k .0) (k .2))) in
-    (s, k .1 ∙ ap number reply, rw reply at (k .2)))
+replies-first h v e = by-act (meant h slot) (at-slot h v) e
+  where
+    n : ℕ
+    n = node (h .core)
+
+    by-act : (a : Act) → AtSlot h a → (isFrame (frameBy (h .core) a) && eqb (frameIn (frameBy (h .core) a) .identifier) (0x580 + n)) ≡ true
+        → (isInitialising (h .core) ≡ false) × (first (waiting (h .line)) ≡ number sdoReply) × (waits h sdoReply ≡ true)
+    by-act boot (booting i) e = absurd (omega (arith, eqb-true (0x700 + n) (0x580 + n) e))
+    by-act idle (idling i f) e = true-false (sym e)
+    by-act (send k) (sending _ i f w) e =
+        let reply : k ≡ sdoReply = only-reply n (h .core) refl (v .device) k (v .only k w) (eqb-true _ _ e) in
+        (i, f ∙ ap number reply, rw reply at w)
 
 -- who waits, where none joins and the one that waits stays: s sent, y and z whether it may before and after, w whether it waited
 stays-waiting : (y z s w : Bool) → (w ≡ true → z ≡ true) → (w ≡ true → s ≡ false) → (not (y && not z) && (not s && w)) ≡ w

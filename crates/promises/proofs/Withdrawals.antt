@@ -150,13 +150,13 @@ module _ (h : Head) (v : Valid h) where
   by-slot : (a : Act) → AtSlot h a → (k : Kind) → may (h .core) k ≡ true → may (acted (h .core) a) k ≡ false → first (waiting (h .line)) ≡ number k
   by-slot boot (booting i) k y n = goes-on y (no-may (h .core) k i)
   by-slot idle (idling i e) k y n = goes-on y n
-  by-slot (send emergency) (sending j i e) emergency y n = e
-  by-slot (send emergency) (sending j i e) sdoReply y n = goes-on y n
-  by-slot (send emergency) (sending j i e) heartbeat y n = goes-on y n
-  by-slot (send emergency) (sending j i e) (tpdo w) y n = goes-on y n
-  by-slot (send sdoReply) (sending j i e) k y n = goes-on y n
-  by-slot (send heartbeat) (sending j i e) k y n = goes-on y n
-  by-slot (send (tpdo w)) (sending j i e) k y n = goes-on y n
+  by-slot (send emergency) (sending j i e w) emergency y n = e
+  by-slot (send emergency) (sending j i e w) sdoReply y n = goes-on y n
+  by-slot (send emergency) (sending j i e w) heartbeat y n = goes-on y n
+  by-slot (send emergency) (sending j i e w) (tpdo x) y n = goes-on y n
+  by-slot (send sdoReply) (sending j i e w) k y n = goes-on y n
+  by-slot (send heartbeat) (sending j i e w) k y n = goes-on y n
+  by-slot (send (tpdo x)) (sending j i e w) k y n = goes-on y n
 
   abbrev Ended : Call → Kind → Type 0
   Ended x k = may (step h x .core) k ≡ false
