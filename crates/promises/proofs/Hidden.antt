@@ -18,7 +18,7 @@ use Rattle.promises.proofs.Valid.{valid-step}
 use Rattle.promises.proofs.Meant.{core-step}
 use Rattle.promises.proofs.Conditions.{shows}
 use Rattle.promises.proofs.Histories.{at-power-up, valid-after, valid-powered}
-use Rattle.promises.proofs.Relief.{no-relief, stays-missing}
+use Rattle.promises.proofs.Readings.{stays-missing}
 use Rattle.promises.proofs.Known.{framed, frames-by, sent-waits, known, known-boot-up}
 
 among-append : {A : Type 0} (t : A → Bool) (xs ys : List A) → among t xs ≡ false → among t ys ≡ false → among t (xs ++ ys) ≡ false
@@ -52,7 +52,7 @@ hidden (x ∷ cs) h v g e =
     let n = neither (isGoodSample x) (among isGoodSample cs) e in
     among-append isPosition (frames h x) (sent (step h x) cs)
     (rw (frames-by h v x) (hides (h .core) (meant h x) (v .device) (λ k m. v .only k (sent-waits h v x k m)) g))
-    (hidden cs (step h x) (valid-step h x v) (rw (core-step h x) (stays-missing (h .core) (meant h x) (no-relief _ false h refl v x (n .0) (λ t. true-false (sym t))) g)) (n .1))
+    (hidden cs (step h x) (valid-step h x v) (stays-missing h v x (n .0) g) (n .1))
 
 pub no-position : (p : PowerUp) (before cs : List Call) → among isGoodSample cs ≡ false → among isPosition (sent (after (powered p) before) (sample Missing ∷ cs)) ≡ false
 no-position p before cs e =

@@ -29,12 +29,13 @@ pub mod Known
 pub mod Announced
 pub mod Spoken
 pub mod Inhibit
-pub mod Relief
+pub mod Halts
+pub mod Readings
+pub mod Unrelieved
 pub mod Hidden
 pub mod Gap
 pub mod Service
 pub mod Replies
-pub mod Readings
 pub mod Positions
 pub mod ErrorList
 pub mod Runs

@@ -1,12 +1,14 @@
 -- The reading is the last sample taken, and what 6004h, 1001h and 6503h tell of it: `tells`, of specs/Readings.antt.
 use Prim.Native.Nat.{ℕ}
 use native.Mathlib.Omega.{arith}
-use mathlib.Core.Path.{_≡_, refl, sym, ap, _∙_}
+use lib.Dec.{ltb}
+use mathlib.Core.Path.{_≡_, refl, sym, ap, ap₂, _∙_}
 use mathlib.Core.Logic.{_↔_}
-use mathlib.Core.Bool.{Bool, true, not, cond}
+use mathlib.Core.Bool.{Bool, true, false, not, cond}
 use mathlib.Core.List.{List, [], _∷_}
 use mathlib.Core.Option.{some}
-use borrow.Author.Tests.{eqb-true}
+use borrow.Author.Tests.{eqb-true, leb-false, ltb-false}
+use Rattle.cases.proofs.Cases.{by}
 use Rattle.position.specs.declared.Profile.{Profile}
 use Rattle.position.specs.Position.{position}
 use Rattle.entries.specs.declared.Device.{Device}
@@ -23,11 +25,12 @@ use Rattle.sdo.specs.Service.{value, abort, isBlank, numberIn, due}
 use Rattle.parts.specs.declared.Head.{Head}
 use Rattle.parts.specs.declared.Sensor.{Sensor}
 use Rattle.parts.specs.declared.Sensor.the-variants.{Missing, Raw}
-use Rattle.promises.specs.States.{operational, isIn, missingReading}
-use Rattle.promises.specs.Calls.{Call, step}
+use Rattle.promises.specs.States.{operational, isIn, good, missingReading}
+use Rattle.promises.specs.Calls.{Call, receive, tick, sample, slot, step}
 use Rattle.promises.specs.Valid.{Valid}
 use Rattle.promises.specs.Histories.{after, PowerUp, powered}
 use Rattle.promises.specs.Service.{replyDue}
+use Rattle.promises.specs.Gap.{isGoodSample}
 use Rattle.promises.specs.Readings.{readsIn, profileOf, sampleBy, lastSample, readingOf, shownPosition, shownRegister, dueShown, Tells}
 use Rattle.promises.proofs.Valid.{valid-step}
 use Rattle.promises.proofs.Altered.{Altered, heard, timed, sent, refused, took, lost, restarted, served, carried, altered}
@@ -97,6 +100,20 @@ reading-after : (cs : List Call) (h : Head) (s : Sensor) → Valid h → h .core
     → after h cs .core .device .reading ≡ readingOf (lastSample s cs)
 reading-after [] h s v e = e
 reading-after (c ∷ cs) h s v e = reading-after cs (step h c) (sampleBy s c) (valid-step h c v) (reading-step h v s c e)
+
+-- a missing reading stays missing until a good sample
+still-missing : (c : Call) → isGoodSample c ≡ false → readingOf (sampleBy Missing c) .good ≡ false
+still-missing (receive f) e = refl
+still-missing tick e = refl
+still-missing (sample Missing) e = refl
+still-missing (sample (Raw r)) e =
+    by (λ (s : Sensor). readingOf s .good ≡ false) (ltb 1048575 r) (λ _. refl) (λ t. absurd (omega (arith, leb-false r 1048575 e, ltb-false 1048575 r t)))
+still-missing slot e = refl
+
+pub stays-missing : (h : Head) → Valid h → (c : Call) → isGoodSample c ≡ false → good (h .core) ≡ false → good (step h c .core) ≡ false
+stays-missing h v c e g =
+    let missing : h .core .device .reading ≡ missingReading = ap₂ {C = Reading} (λ b r. record { good = b; raw = r }) g (v .device .raw-missing g) in
+    ap (λ (r : Reading). r .good) (reading-step h v Missing c missing) ∙ still-missing c e
 
 -- at power-up the reading is missing
 pub reading-powered : (p : PowerUp) → powered p .core .device .reading ≡ missingReading
