@@ -35,6 +35,7 @@ pub mod Unrelieved
 pub mod Hidden
 pub mod Gap
 pub mod Service
+pub mod Owed
 pub mod Replies
 pub mod Positions
 pub mod ErrorList

@@ -30,7 +30,7 @@ use Rattle.sdo.proofs.Laws.{laws as sdo-laws}
 use Rattle.parts.specs.declared.Core.{Core}
 use Rattle.parts.specs.declared.Head.{Head}
 use Rattle.parts.specs.declared.Sensor.the-variants.{Missing, Raw}
-use Rattle.promises.specs.States.{operational, isIn, node, good, ofNode, ofCommunication}
+use Rattle.promises.specs.States.{operational, isIn, node, ofNode, ofCommunication}
 use Rattle.promises.specs.WaitingLine.{Kind, emergency, sdoReply, heartbeat, tpdo, frameOf}
 use Rattle.promises.specs.Acts.{Act, boot, idle, send, serve, acted, frameBy}
 use Rattle.promises.specs.Calls.{Call, receive, slot, served, meant, step, isFrame, frameIn, received, slotted}

@@ -22,7 +22,7 @@ use Rattle.waiting.proofs.Order.{join-is}
 use Rattle.waiting.proofs.Laws.{laws}
 use Rattle.parts.specs.declared.Core.{Core}
 use Rattle.parts.specs.declared.Head.{Head}
-use Rattle.promises.specs.States.{operational, isIn, isInitialising, live, isLive, node}
+use Rattle.promises.specs.States.{operational, isIn, isInitialising, isLive, node}
 use Rattle.promises.specs.WaitingLine.{emergency, sdoReply, number, flag, may}
 use Rattle.promises.specs.Acts.{Act, nothing, enter, reset, boot, idle, send, take, lose, time, sync, serve, acted, moments, goes, act}
 use Rattle.promises.specs.Calls.{receive, meant, step, received}

@@ -36,7 +36,7 @@ beating sdoReply = false
 beating heartbeat = true
 beating (tpdo w) = false
 
-other : (k : Kind) → beating k ≡ false → k ≡ heartbeat → ⊥
+pub other : (k : Kind) → beating k ≡ false → k ≡ heartbeat → ⊥
 other k n e = true-false (sym (ap beating e) ∙ n)
 
 -- a condition that held and did not end
