@@ -14,18 +14,18 @@ use Rattle.dictionary.specs.Writes.{written}
 use Rattle.sdo.specs.declared.reply.Effect.the-variants.{Reply}
 use Rattle.sdo.specs.Request.{indexOf, subOf}
 use Rattle.sdo.specs.Reply.{confirmed}
-use Rattle.sdo.specs.Service.{Due, confirmation, answer}
+use Rattle.sdo.specs.Service.{confirmation, answer}
 use Rattle.sdo.specs.Laws.{Confirmed, Told}
 use Rattle.sdo.proofs.Laws.{laws as sdo-laws}
 use Rattle.parts.specs.declared.Head.{Head}
 use Rattle.promises.specs.States.{operational, isIn}
 use Rattle.promises.specs.Acts.{serve, settledTo, act}
-use Rattle.promises.specs.Calls.{receive, served, meant, received}
+use Rattle.promises.specs.Calls.{receive, meant, received}
 use Rattle.promises.specs.Valid.{Valid}
 use Rattle.promises.specs.Meant.{Requests, dueTo}
 use Rattle.promises.specs.Effects.{effects, anew, readBack, OnlyReplied, Effects, Served, ServedRightly}
 use Rattle.promises.proofs.Nothing.{step-nothing}
-use Rattle.promises.proofs.Causes.{requests}
+use Rattle.promises.proofs.Causes.{means}
 use Rattle.promises.proofs.Histories.{valid-reachable}
 use Rattle.promises.proofs.Anew.{reads-after, own-after, untouched}
 use Rattle.promises.proofs.Restarts.{counts}
@@ -37,9 +37,6 @@ module _ (h : Head) (f : Received) (valid : Valid h) (r : Requests h f) where
 
   abbrev o : Bool
   o = isIn operational (h .core)
-
-  means : {y : Due} → dueTo h f ≡ y → meant h (receive f) ≡ served (answer (f .bytes) y)
-  means e = requests h f valid r ∙ ap (λ y. served (answer (f .bytes) y)) e
 
   -- by a reply of these bytes, which has no other effect
   replied : (bytes : List ℕ) → answer (f .bytes) (dueTo h f) .bytes ≡ bytes → meant h (receive f) ≡ serve (record { bytes = bytes; effect = Reply })
@@ -93,14 +90,14 @@ module _ (h : Head) (f : Received) (valid : Valid h) (r : Requests h f) where
           line = write-line h valid (r .live) (r .free) (f .bytes) k v;
           who-waits = write-waits h valid (r .live) (r .free) (f .bytes) k v;
         } in
-        subst (λ a. Effects f k v h (act false h a)) (sym (means e)) after
+        subst (λ a. Effects f k v h (act false h a)) (sym (means h f valid r e)) after
 
   serves : Served h f
   serves =
       record {
-        aborted = λ code e. replied _ (ap (λ y. answer (f .bytes) y .bytes) e) (means e);
-        read = λ width n e. replied _ (ap (λ y. answer (f .bytes) y .bytes) e) (means e);
-        client-aborts = λ e. step-nothing h (receive f) refl (means e);
+        aborted = λ code e. replied _ (ap (λ y. answer (f .bytes) y .bytes) e) (means h f valid r e);
+        read = λ width n e. replied _ (ap (λ y. answer (f .bytes) y .bytes) e) (means h f valid r e);
+        client-aborts = λ e. step-nothing h (receive f) refl (means h f valid r e);
         accepted = accepted;
       }
 

@@ -23,7 +23,7 @@ use Rattle.dictionary.specs.Accepted.{barred}
 use Rattle.dictionary.specs.Writes.{rescales, written}
 use Rattle.dictionary.proofs.Accepted.{taken}
 use Rattle.dictionary.proofs.Laws.{laws as dictionary-laws}
-use Rattle.sdo.specs.Reply.{confirmed, carriedOut}
+use Rattle.sdo.specs.Reply.{carriedOut}
 use Rattle.sdo.specs.Service.{Due, none, value, confirmation, abort, answer}
 use Rattle.sdo.specs.Laws.{Confirmed}
 use Rattle.sdo.proofs.Laws.{laws as sdo-laws}
@@ -32,16 +32,15 @@ use Rattle.parts.specs.declared.Head.{Head}
 use Rattle.parts.specs.declared.Sensor.the-variants.{Missing, Raw}
 use Rattle.promises.specs.States.{operational, isIn, node, ofNode, ofCommunication}
 use Rattle.promises.specs.WaitingLine.{Kind, emergency, sdoReply, heartbeat, tpdo, frameOf}
-use Rattle.promises.specs.Acts.{Act, boot, idle, send, serve, acted, frameBy}
-use Rattle.promises.specs.Calls.{Call, receive, slot, served, meant, step, isFrame, frameIn, received, slotted}
+use Rattle.promises.specs.Acts.{Act, boot, idle, send, frameBy}
+use Rattle.promises.specs.Calls.{Call, receive, slot, meant, step, isFrame, frameIn, received, slotted}
 use Rattle.promises.specs.Valid.{waits, Valid}
 use Rattle.promises.specs.Meant.{dueTo, Writes}
 use Rattle.promises.specs.Histories.{after, Reachable}
 use Rattle.promises.specs.Gap.{isPosition, showsPosition}
 use Rattle.promises.specs.Readings.{readsIn, profileOf, repositions, Moves, Unmoved, samples, writes, resets, Carries, Positioned}
 use Rattle.promises.proofs.Valid.{valid-step}
-use Rattle.promises.proofs.Meant.{core-step}
-use Rattle.promises.proofs.Causes.{requests}
+use Rattle.promises.proofs.Causes.{writes as writes-so}
 use Rattle.promises.proofs.Answers.{AtSlot, booting, idling, sending, at-slot}
 use Rattle.promises.proofs.Conditions.{shows}
 use Rattle.promises.proofs.Altered.{Altered, heard, timed, sent, refused, took, lost, restarted, served as is-served, altered}
@@ -85,9 +84,7 @@ showing-due d f (abort c) n = refl
 module _ (h : Head) (v : Valid h) where
   -- a write that is accepted is carried out
   pub written-by : {f : Received} {k x : ℕ} → Writes h f k x → step h (receive f) .core .device ≡ written (h .core .device) k x
-  written-by {f} {k} {x} w =
-      let m : meant h (receive f) ≡ serve (confirmed (f .bytes) k x) = requests h f v (w .requests) ∙ ap (λ d. served (answer (f .bytes) d)) (w .accepted) in
-      ap (λ (c : Core). c .device) (core-step h (receive f) ∙ ap (acted (h .core)) m)
+  written-by {f} w = ap (λ (c : Core). c .device) (writes-so h f v w)
 
   presets : (f : Received) (x : ℕ) → Writes h f 0x6003_00 x → readsIn (received h f .head) 0x6004 0 ≡ some (Number x)
   presets f x w =

@@ -67,6 +67,10 @@ reply-joins true ws n =
     (λ w. rw (join-is ws line.emergency, w, join-is (ws ++ line.emergency ∷ []) line.sdoReply, has-append line.sdoReply ws (line.emergency ∷ []), n)
     (append-assoc ws (line.emergency ∷ []) (line.sdoReply ∷ [])))
 
+last-in : {all : List ℕ} (ws : List ℕ) (e : Bool) → all ≡ ws ++ joining e → (ahead : List ℕ) × (all ≡ ahead ++ line.sdoReply ∷ [])
+last-in ws true q = (ws ++ line.emergency ∷ [], q ∙ sym (append-assoc ws (line.emergency ∷ []) (line.sdoReply ∷ [])))
+last-in ws false q = (ws, q)
+
 -- A write of v to the setting of a condition ends it exactly if v does; t: it is that setting which is written.
 alert-ends : (t : Bool) (s : Nmt) (v held i : ℕ) (g a : Bool) → mayAlert s held i g a ≡ true → not (mayAlert s (cond t v held) i g a) ≡ (t && not (on v))
 alert-ends true s v held i g a m =
@@ -128,6 +132,11 @@ module _ (h : Head) (valid : Valid h) (l : isLive (h .core) ≡ true) (free : wa
       ∙ ap (λ r. joins r (joining due)) out
       ∙ reply-joins due left gone
       ∙ ap (λ t. left ++ joining t) e
+
+  pub at-the-end : (s : Served) → (ahead : List ℕ) × (waiting (act false h (serve s) .line) ≡ ahead ++ line.sdoReply ∷ [])
+  at-the-end s =
+      let left = withdraws ws (goes c (serving c s)) in
+      last-in left (may (serving c s) emergency && not (has line.emergency left)) (served-line s refl refl)
 
   -- An aborted request and a read: no condition ends or begins.
   pub only-reply : (bytes : List ℕ) → waiting (act false h (serve (record { bytes = bytes; effect = Reply })) .line) ≡ ws ++ line.sdoReply ∷ []

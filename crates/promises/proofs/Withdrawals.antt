@@ -19,13 +19,13 @@ use Rattle.parts.specs.declared.Sensor.the-variants.{Missing, Raw}
 use Rattle.promises.specs.States.{Goal, operational, stopped, preOperational, state, isIn, isInitialising, isLive, good, communication, Which, pdo}
 use Rattle.promises.specs.WaitingLine.{Kind, emergency, sdoReply, heartbeat, tpdo, number, may}
 use Rattle.promises.specs.Acts.{Act, nothing, enter, reset, boot, idle, send, take, lose, time, sync, serve, acted}
-use Rattle.promises.specs.Calls.{Call, receive, tick, sample, slot, served, meant, step}
+use Rattle.promises.specs.Calls.{Call, receive, tick, sample, slot, meant, step}
 use Rattle.promises.specs.Meant.{Requests, Writes, dueTo}
 use Rattle.promises.specs.Valid.{Valid}
 use Rattle.promises.specs.Withdrawals.{identifierKey, Withdrawal, resets, stops, leaves, loses, switches-off, beats-no-more, silenced, found, lost}
 use Rattle.promises.proofs.Slots.{no-may}
 use Rattle.promises.proofs.Meant.{core-step, enters, resets as reset-law}
-use Rattle.promises.proofs.Causes.{Cause, cause, requests}
+use Rattle.promises.proofs.Causes.{Cause, cause, writes}
 use Rattle.promises.proofs.Answers.{AtSlot, booting, idling, sending, at-slot}
 use Rattle.promises.proofs.Conditions.{alerting, alerts, beats, shows, alert-written, beat-written, show-written}
 
@@ -173,9 +173,7 @@ module _ (h : Head) (v : Valid h) where
 
   -- Each withdrawal ends the condition of what it takes.
   written-so : {f : Received} {j n : ℕ} → Writes h f j n → (k : Kind) → may (step h (receive f) .core) k ≡ may (acted (h .core) (serve (confirmed (f .bytes) j n))) k
-  written-so {f} {j} {n} x k =
-      let m : meant h (receive f) ≡ serve (confirmed (f .bytes) j n) = requests h f v (x .requests) ∙ ap (λ d. served (answer (f .bytes) d)) (x .accepted) in
-      ap (λ c. may c k) (core-step h (receive f) ∙ ap (acted (h .core)) m)
+  written-so {f} x k = ap (λ c. may c k) (writes h f v x)
 
   stopped-may : (c : Core) (k : Kind) → c .nmt ≡ state stopped → (k ≡ heartbeat → ⊥) → may c k ≡ false
   stopped-may c emergency e o = rw e
