@@ -31,6 +31,13 @@ use Rattle.promises.proofs.Anew.{reads-after, own-after, untouched}
 use Rattle.promises.proofs.Restarts.{counts}
 use Rattle.promises.proofs.ReplyJoins.{only-reply, write-line, write-waits}
 
+-- where an accepted write goes, and that it is taken there
+pub told : (h : Head) (f : Received) {k v : ℕ} → dueTo h f ≡ confirmation k v → Confirmed (h .core .device) (f .bytes) (lookup (indexOf (f .bytes)) (subOf (f .bytes))) k v
+told h f e =
+    let d = h .core .device in
+    let o = isIn operational (h .core) in
+    subst (Told d o (f .bytes) (lookup (indexOf (f .bytes)) (subOf (f .bytes)))) e (sdo-laws d o (f .bytes) .told)
+
 module _ (h : Head) (f : Received) (valid : Valid h) (r : Requests h f) where
   abbrev d : Device
   d = h .core .device
@@ -56,19 +63,19 @@ module _ (h : Head) (f : Received) (valid : Valid h) (r : Requests h f) where
       subst (λ a. OnlyReplied f h (act false h a)) (sym m) after
 
   module _ (k v : ℕ) (e : dueTo h f ≡ confirmation k v) where
-    pub told : Confirmed d (f .bytes) (lookup (indexOf (f .bytes)) (subOf (f .bytes))) k v
-    told = subst (Told d o (f .bytes) (lookup (indexOf (f .bytes)) (subOf (f .bytes)))) e (sdo-laws d o (f .bytes) .told)
+    abbrev its : Confirmed d (f .bytes) (lookup (indexOf (f .bytes)) (subOf (f .bytes))) k v
+    its = told h f e
 
     reads-anew : (i j : ℕ) → reads (written d k v) o i j ≡ anew (effects d o k v) (keyOf i j) (reads d o i j)
     reads-anew i j =
-        subst (λ n. reads (written d n v) o i j ≡ anew (effects d o n v) (keyOf i j) (reads d o i j)) (sym (told .key))
-        (reads-after d o (told .place) v (valid .device) (told .takes) i j)
+        subst (λ n. reads (written d n v) o i j ≡ anew (effects d o n v) (keyOf i j) (reads d o i j)) (sym (its .key))
+        (reads-after d o (its .place) v (valid .device) (its .takes) i j)
 
     own : reads (written d k v) o (indexOf (f .bytes)) (subOf (f .bytes)) ≡ some (Number (readBack k v))
     own =
-        ap (readOf (written d k v) o) (told .found)
-        ∙ subst (λ n. readOf (written d n v) o (At (told .place)) ≡ some (Number (readBack n v))) (sym (told .key))
-        (ap some (own-after d o (told .place) v (valid .device) (told .takes)))
+        ap (readOf (written d k v) o) (its .found)
+        ∙ subst (λ n. readOf (written d n v) o (At (its .place)) ≡ some (Number (readBack n v))) (sym (its .key))
+        (ap some (own-after d o (its .place) v (valid .device) (its .takes)))
 
     accepted : Effects f k v h (received h f .head)
     unfolding act settledTo written

@@ -21,8 +21,6 @@ use Rattle.dictionary.proofs.ReadBack.{emptied}
 use Rattle.dictionary.proofs.Laws.{shows}
 use Rattle.sdo.specs.Reply.{carriedOut}
 use Rattle.sdo.specs.Service.{Due, none, value, confirmation, abort, answer}
-use Rattle.sdo.specs.Laws.{Confirmed}
-use Rattle.sdo.proofs.Laws.{laws as sdo-laws}
 use Rattle.parts.specs.declared.Head.{Head}
 use Rattle.parts.specs.declared.Sensor.{Sensor}
 use Rattle.parts.specs.declared.Sensor.the-variants.{Missing, Raw}
@@ -39,6 +37,7 @@ use Rattle.promises.proofs.Altered.{Altered, heard, timed, sent, refuse
 use Rattle.promises.proofs.Histories.{at-power-up, valid-powered}
 use Rattle.promises.proofs.Service.{is-request}
 use Rattle.promises.proofs.Readings.{reading-step, reading-powered}
+use Rattle.promises.proofs.Effects.{told}
 use Rattle.promises.proofs.Positions.{written-by}
 
 -- what 1003h reads
@@ -86,12 +85,10 @@ module _ (h : Head) (f : Received) where
     where
       as-write : empties h f ≡ true → Writes h f 0x1003_00 0
       as-write e =
-          let d = h .core .device in
-          let o = isIn operational (h .core) in
           let u = both (isRequest h f) (confirms 0x1003_00 (dueTo h f)) e in
           let y = confirmed-by 0x1003_00 (dueTo h f) (u .1) in
-          let c : Confirmed d (f .bytes) _ 0x1003_00 (y .0) = rw (y .1) at (sdo-laws d o (f .bytes) .told) in
-          let zero : y .0 ≡ 0 = emptied d o (c .place) (y .0) (c .takes) (eq-eqb _ _ (sym (c .key))) in
+          let c = told h f (y .1) in
+          let zero : y .0 ≡ 0 = emptied (h .core .device) (isIn operational (h .core)) (c .place) (y .0) (c .takes) (eq-eqb _ _ (sym (c .key))) in
           record { requests = is-request h f .0 (u .0); accepted = y .1 ∙ ap (λ (v : ℕ). confirmation 0x1003_00 v) zero }
 
 module _ (h : Head) (s : Sensor) (n : ℕ) (p : h .core .device .reading ≡ readingOf s) (q : h .core .device .errors ≡ min 4 n) where

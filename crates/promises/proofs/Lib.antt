@@ -37,14 +37,14 @@ pub mod Gap
 pub mod Service
 pub mod Owed
 pub mod Replies
-pub mod Positions
-pub mod ErrorList
-pub mod Runs
 pub mod Anew
 pub mod Restarts
 pub mod ReplyJoins
 pub mod Effects
 pub mod EffectsMet
+pub mod Positions
+pub mod ErrorList
+pub mod Runs
 pub mod Kept
 pub mod ReadsOn
 pub mod Resets

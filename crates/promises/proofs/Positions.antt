@@ -6,27 +6,19 @@ use mathlib.Core.Path.{_≡_, refl, sym, ap, _∙_}
 use mathlib.Core.Bool.{Bool, true, false, not, _||_, cond}
 use mathlib.Core.List.{List, [], _∷_}
 use mathlib.Core.Option.{Option, some}
-use borrow.Author.Tests.{not-false}
 use Rattle.cases.proofs.Cases.{test, neither, true-false}
 use Rattle.can.specs.declared.Received.{Received}
 use Rattle.can.proofs.Number.{numbers}
 use Rattle.position.specs.declared.Profile.{Profile}
 use Rattle.position.specs.Position.{position}
-use Rattle.position.specs.Laws.{Presets}
 use Rattle.position.proofs.Laws.{laws as position-laws}
 use Rattle.entries.specs.declared.Device.{Device}
-use Rattle.entries.specs.Table.{missing, rowAt}
 use Rattle.dictionary.specs.declared.read.Shown.{Shown}
 use Rattle.dictionary.specs.declared.read.Shown.the-variants.{Blank, Number}
 use Rattle.cases.specs.Tests.{within}
-use Rattle.dictionary.specs.Accepted.{barred}
 use Rattle.dictionary.specs.Writes.{rescales, written}
-use Rattle.dictionary.proofs.Accepted.{taken}
-use Rattle.dictionary.proofs.Laws.{laws as dictionary-laws}
 use Rattle.sdo.specs.Reply.{carriedOut}
 use Rattle.sdo.specs.Service.{Due, none, value, confirmation, abort, answer}
-use Rattle.sdo.specs.Laws.{Confirmed}
-use Rattle.sdo.proofs.Laws.{laws as sdo-laws}
 use Rattle.parts.specs.declared.Core.{Core}
 use Rattle.parts.specs.declared.Head.{Head}
 use Rattle.parts.specs.declared.Sensor.the-variants.{Missing, Raw}
@@ -38,6 +30,7 @@ use Rattle.promises.specs.Valid.{waits, Valid}
 use Rattle.promises.specs.Meant.{dueTo, Writes}
 use Rattle.promises.specs.Histories.{after, Reachable}
 use Rattle.promises.specs.Gap.{isPosition, showsPosition}
+use Rattle.promises.specs.Effects.{effects, anew}
 use Rattle.promises.specs.Readings.{readsIn, profileOf, repositions, Moves, Unmoved, samples, writes, resets, Carries, Positioned}
 use Rattle.promises.proofs.Valid.{valid-step}
 use Rattle.promises.proofs.Causes.{writes as writes-so}
@@ -47,6 +40,7 @@ use Rattle.promises.proofs.Altered.{Altered, heard, timed, sent, refuse
 use Rattle.promises.proofs.Histories.{valid-reachable}
 use Rattle.promises.proofs.Known.{known, known-boot-up}
 use Rattle.promises.proofs.Readings.{position-shown}
+use Rattle.promises.proofs.Effects.{served-rightly}
 
 -- what 6004h reads of a device
 abbrev showing : Device → Option Shown
@@ -55,11 +49,6 @@ showing d = some (cond (not (d .reading .good)) Blank (Number (position (d .sett
 -- while it is good
 shows-good : (d : Device) → d .reading .good ≡ true → showing d ≡ some (Number (position (d .settings .profile) (d .reading .raw)))
 shows-good d e = ap (λ (g : Bool). some (cond (not g) Blank (Number (position (d .settings .profile) (d .reading .raw))))) e
-
--- an accepted preset
-preset-shown : (d : Device) (v : ℕ) → d .reading .good ≡ true → Presets (d .settings .profile) (d .reading .raw) v → showing (written d 0x6003_00 v) ≡ some (Number v)
-unfolding written
-preset-shown d v e p = shows-good (written d 0x6003_00 v) e ∙ ap (λ (n : ℕ). some (Number n)) (p .reads)
 
 -- no other write, but those that rescale, alters the profile
 profile-kept : (d : Device) (k v : ℕ) → repositions k ≡ false → written d k v .settings .profile ≡ d .settings .profile
@@ -85,17 +74,6 @@ module _ (h : Head) (v : Valid h) where
   -- a write that is accepted is carried out
   pub written-by : {f : Received} {k x : ℕ} → Writes h f k x → step h (receive f) .core .device ≡ written (h .core .device) k x
   written-by {f} w = ap (λ (c : Core). c .device) (writes-so h f v w)
-
-  presets : (f : Received) (x : ℕ) → Writes h f 0x6003_00 x → readsIn (received h f .head) 0x6004 0 ≡ some (Number x)
-  presets f x w =
-      let d = h .core .device in
-      let o = isIn operational (h .core) in
-      let c : Confirmed d (f .bytes) _ 0x6003_00 x = rw (w .accepted) at (sdo-laws d o (f .bytes) .told) in
-      let free : barred d 0x6003_00 x ≡ false = ap (λ (k : ℕ). barred d k x) (c .key) ∙ taken d (rowAt (c .place)) x (c .takes .unrefused) .1 in
-      let present : missing d ≡ false = neither (missing d) false (neither (missing d || false) false free .0) .0 in
-      let below : x < d .settings .profile .range = dictionary-laws .written-fits d (c .place) x (c .takes) (sym (c .key)) in
-      position-shown (step h (receive f) .core .device) _ ∙ ap showing (written-by w)
-      ∙ preset-shown d x (not-false _ present) (position-laws .presets (d .settings .profile) (d .reading .raw) x (v .device .settings .profile) below)
 
   kept : (c : Call) (d : Device) → (Moves h c → ⊥) → Altered h c d → showing d ≡ showing (h .core .device)
   kept _ _ n (heard f) = refl
@@ -142,6 +120,13 @@ module _ (h : Head) (v : Valid h) where
       by-act idle (idling i e) f b = true-false (sym f)
       by-act (send k) (sending _ i e w) f b = carries-as k w (sym (known (node (h .core)) (h .core) refl (v .device) k (v .only k w) .position) ∙ b)
 
+-- an accepted preset
+presets : (h : Head) → Reachable h → (f : Received) (x : ℕ) → Writes h f 0x6003_00 x → readsIn (received h f .head) 0x6004 0 ≡ some (Number x)
+presets h r f x w =
+    let d = h .core .device in
+    let o = isIn operational (h .core) in
+    served-rightly h r f (w .requests) .accepted 0x6003_00 x (w .accepted) .entries 0x6004 0 ∙ ap (anew (effects d o 0x6003_00 x) 0x6004_00) (position-shown d o)
+
 stays : (cs : List Call) (h : Head) → Valid h → Unmoved h cs → readsIn (after h cs) 0x6004 0 ≡ readsIn h 0x6004 0
 stays [] h v u = refl
 stays (c ∷ cs) h v u = stays cs (step h c) (valid-step h c v) (u .1) ∙ stays-by h v c (u .0)
@@ -153,7 +138,7 @@ positioned h r =
     record {
       formula = λ n. position-laws .positions (profileOf h) n p;
       mirrors = λ n. position-laws .mirrors (profileOf h) n p;
-      presets = presets h v;
+      presets = presets h r;
       stays = λ cs. stays cs h v;
       carries = carries h v;
     }
