@@ -16,6 +16,7 @@ pub mod Altered
 pub mod Answers
 pub mod Conditions
 pub mod Withdrawals
+pub mod Ended
 pub mod NetworkStates
 pub mod Histories
 pub mod Demand1

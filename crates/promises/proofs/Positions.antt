@@ -39,12 +39,12 @@ use Rattle.promises.proofs.Conditions.{shows}
 use Rattle.promises.proofs.Altered.{Altered, heard, timed, sent, refused, took, lost, restarted, served as is-served, altered}
 use Rattle.promises.proofs.Histories.{valid-reachable}
 use Rattle.promises.proofs.Known.{known, known-boot-up}
-use Rattle.promises.proofs.Readings.{position-shown}
+use Rattle.promises.proofs.Readings.{shownAs, position-shown}
 use Rattle.promises.proofs.Effects.{served-rightly}
 
 -- what 6004h reads of a device
 abbrev showing : Device → Option Shown
-showing d = some (cond (not (d .reading .good)) Blank (Number (position (d .settings .profile) (d .reading .raw))))
+showing d = some (shownAs (d .settings .profile) (d .reading))
 
 -- while it is good
 shows-good : (d : Device) → d .reading .good ≡ true → showing d ≡ some (Number (position (d .settings .profile) (d .reading .raw)))
@@ -62,7 +62,7 @@ profile-kept d k v e =
 showing-kept : (d : Device) (k v : ℕ) → repositions k ≡ false → showing (written d k v) ≡ showing d
 unfolding written
 showing-kept d k v e =
-    ap (λ (p : Profile). some (cond (not (d .reading .good)) Blank (Number (position p (d .reading .raw))))) (profile-kept d k v e)
+    ap (λ (p : Profile). some (shownAs p (d .reading))) (profile-kept d k v e)
 
 showing-due : (d : Device) (f : List ℕ) (y : Due) → ((k v : ℕ) → y ≡ confirmation k v → repositions k ≡ true → ⊥) → showing (carriedOut d (answer f y .effect)) ≡ showing d
 showing-due d f none n = refl

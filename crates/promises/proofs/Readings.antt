@@ -41,22 +41,22 @@ shown-due : (w : ℕ) (s : Shown) → cond (isBlank s) (abort 0x08000024) (value
 shown-due w Blank = refl
 shown-due w (Number n) = refl
 
+-- 6004h, of a reading
+abbrev pub shownAs : Profile → Reading → Shown
+shownAs p r = cond (not (r .good)) Blank (Number (position p (r .raw)))
+
 -- what the entries of a device read
 module _ (d : Device) (o : Bool) where
-  -- 6004h, of a reading
-  abbrev shownAs : Reading → Shown
-  shownAs r = cond (not (r .good)) Blank (Number (position (d .settings .profile) (r .raw)))
-
   -- it stands at place 35
   position-place : lookup 0x6004 0 ≡ At 35
   unfolding table entries lookup
   position-place = refl
 
-  position-there : (shownAt d o 35 ≡ shownAs (d .reading)) × (width (rowAt 35) ≡ 4)
+  position-there : (shownAt d o 35 ≡ shownAs (d .settings .profile) (d .reading)) × (width (rowAt 35) ≡ 4)
   unfolding table entries shownAt
   position-there = (refl, refl)
 
-  pub position-shown : reads d o 0x6004 0 ≡ some (shownAs (d .reading))
+  pub position-shown : reads d o 0x6004 0 ≡ some (shownAs (d .settings .profile) (d .reading))
   position-shown = shows d o 0x6004 0 position-place (position-there .0)
 
   registers-shown : let register = Number (cond (not (d .reading .good)) 1 0) in Shows d o 0x1001 0 register × Shows d o 0x6503 0 register
@@ -67,11 +67,11 @@ module _ (d : Device) (o : Bool) where
   unfolding due
   read-due f p r q = rw (q, eqb-true (top f) 2 r) (shown-due (width (rowAt p)) (shownAt d o p))
 
-  position-due : (f : List ℕ) → reading f ≡ true → indexOf f ≡ 0x6004 → subOf f ≡ 0 → due d o f ≡ dueShown 4 (shownAs (d .reading))
+  position-due : (f : List ℕ) → reading f ≡ true → indexOf f ≡ 0x6004 → subOf f ≡ 0 → due d o f ≡ dueShown 4 (shownAs (d .settings .profile) (d .reading))
   position-due f r i j = read-due f 35 r (rw (i, j) position-place) ∙ rw (position-there .1, position-there .0)
 
 -- by the sample whose reading it is
-by-sample : (p : Profile) (s : Sensor) → cond (not (readingOf s .good)) Blank (Number (position p (readingOf s .raw))) ≡ shownPosition p s
+by-sample : (p : Profile) (s : Sensor) → shownAs p (readingOf s) ≡ shownPosition p s
 by-sample p Missing = refl
 by-sample p (Raw r) = refl
 
@@ -123,7 +123,7 @@ tells-of : (h : Head) (s : Sensor) → h .core .device .reading ≡ readingOf s 
 tells-of h s e =
     let d = h .core .device in
     let o = isIn operational (h .core) in
-    let shown : shownAs d o (d .reading) ≡ shownPosition (profileOf h) s = ap (shownAs d o) e ∙ by-sample (profileOf h) s in
+    let shown : shownAs (profileOf h) (d .reading) ≡ shownPosition (profileOf h) s = ap (shownAs (profileOf h)) e ∙ by-sample (profileOf h) s in
     let register : Number (cond (not (d .reading .good)) 1 0) ≡ shownRegister s = ap (λ (r : Reading). Number (cond (not (r .good)) 1 0)) e ∙ register-by s in
     let reads-it : readsIn h 0x6004 0 ≡ some (shownPosition (profileOf h) s) = position-shown d o ∙ ap some shown in
     let blank = blank-by (profileOf h) s in
