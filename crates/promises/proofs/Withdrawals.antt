@@ -2,9 +2,9 @@
 use lib.Dec.{eqb, ltb}
 use mathlib.Core.Path.{_≡_, refl, sym, ap, ap₂, _∙_}
 use mathlib.Core.Logic.{_⊎_, inl, inr}
-use mathlib.Core.Bool.{Bool, true, false, _&&_, and-true}
-use borrow.Author.Tests.{eqb-true, not-false, ltb-false}
-use Rattle.cases.proofs.Cases.{by, test, true-false}
+use mathlib.Core.Bool.{Bool, true, false, not}
+use borrow.Author.Tests.{eqb-true, not-true, ltb-false}
+use Rattle.cases.proofs.Cases.{by, both, test, true-false}
 use Rattle.can.specs.declared.Received.{Received}
 use Rattle.dictionary.specs.Accepted.{on}
 use Rattle.sdo.specs.Service.{Due, none, value, confirmation, abort, answer}
@@ -25,7 +25,7 @@ use Rattle.promises.proofs.Slots.{no-may}
 use Rattle.promises.proofs.Meant.{core-step}
 use Rattle.promises.proofs.Causes.{Cause, cause}
 use Rattle.promises.proofs.Answers.{AtSlot, booting, idling, sending, at-slot}
-use Rattle.promises.proofs.Conditions.{alerts, beats, shows, alert-written, beat-written, show-written}
+use Rattle.promises.proofs.Conditions.{alerts, beats, shows, ends}
 
 -- the one kind that entering Stopped does not take
 abbrev beating : Kind → Bool
@@ -54,38 +54,24 @@ module _ (h : Head) (f : Received) where
   beat-served (value w m) r e y n = goes-on y n
   beat-served (abort m) r e y n = goes-on y n
   beat-served (confirmation k v) r e y n =
-      let z = sym (beat-written c (f .bytes) k v) ∙ n in
-      test (eqb k 0x1017_00)
-      (λ t.
-      let zero-beat : v ≡ 0 = eqb-true v 0 (not-false _ (rw (beats c y .0, t) at z)) in
-      beats-no-more (record { requests = r; accepted = e ∙ ap₂ confirmation (eqb-true k 0x1017_00 t) zero-beat }))
-      (λ t. goes-on y (rw t at z))
+      let t = both (eqb k 0x1017_00) (eqb v 0) (sym (ends c (f .bytes) k v heartbeat y) ∙ ap not n) in
+      beats-no-more (record { requests = r; accepted = e ∙ ap₂ confirmation (eqb-true k 0x1017_00 (t .0)) (eqb-true v 0 (t .1)) })
 
   alert-served : (x : Due) → Requests h f → dueTo h f ≡ x → Ends emergency (serve (answer (f .bytes) x))
   alert-served none r e y n = goes-on y n
   alert-served (value w m) r e y n = goes-on y n
   alert-served (abort m) r e y n = goes-on y n
   alert-served (confirmation k v) r e y n =
-      let s = alerts c y in
-      let z = sym (alert-written c (f .bytes) k v) ∙ n in
-      test (eqb k 0x1014_00)
-      (λ t.
-      let is-off : on v ≡ false = sym (and-true (on v && true) ∙ and-true (on v)) ∙ rw (s .lives, t, s .rested, s .differs) at z in
-      silenced (record { requests = r; accepted = e ∙ ap (λ j. confirmation j v) (eqb-true k 0x1014_00 t) }) is-off)
-      (λ t. goes-on y (rw t at z))
+      let t = both (eqb k 0x1014_00) (not (on v)) (sym (ends c (f .bytes) k v emergency y) ∙ ap not n) in
+      silenced (record { requests = r; accepted = e ∙ ap (λ j. confirmation j v) (eqb-true k 0x1014_00 (t .0)) }) (not-true _ (t .1))
 
   tpdo-served : (w : Which) (x : Due) → Requests h f → dueTo h f ≡ x → Ends (tpdo w) (serve (answer (f .bytes) x))
   tpdo-served w none r e y n = goes-on y n
   tpdo-served w (value u m) r e y n = goes-on y n
   tpdo-served w (abort m) r e y n = goes-on y n
   tpdo-served w (confirmation k v) r e y n =
-      let s = shows c w y in
-      let z = sym (show-written c (f .bytes) k v w) ∙ n in
-      test (eqb k (identifierKey w))
-      (λ t.
-      let is-off : on v ≡ false = sym (and-true (on v)) ∙ rw (s .operates, t, s .is-good) at z in
-      switches-off (record { requests = r; accepted = e ∙ ap (λ j. confirmation j v) (eqb-true k (identifierKey w) t) }) is-off)
-      (λ t. goes-on y (rw t at z))
+      let t = both (eqb k (identifierKey w)) (not (on v)) (sym (ends c (f .bytes) k v (tpdo w) y) ∙ ap not n) in
+      switches-off (record { requests = r; accepted = e ∙ ap (λ j. confirmation j v) (eqb-true k (identifierKey w) (t .0)) }) (not-true _ (t .1))
 
   -- by a frame
   by-frame : (a : Act) (k : Kind) → Cause h f a → Ends k a
