@@ -80,7 +80,7 @@ confirmed-by k (abort c) e = true-false (sym e)
 
 module _ (h : Head) (f : Received) where
   -- what is written there is 0
-  pub is-emptied : (empties h f ≡ true) ↔ Writes h f 0x1003_00 0
+  is-emptied : (empties h f ≡ true) ↔ Writes h f 0x1003_00 0
   is-emptied = (as-write, λ w. rw (is-request h f .1 (w .requests), w .accepted))
     where
       as-write : empties h f ≡ true → Writes h f 0x1003_00 0

@@ -17,8 +17,8 @@ pub mod Answers
 pub mod Conditions
 pub mod Withdrawals
 pub mod Ended
-pub mod NetworkStates
 pub mod Histories
+pub mod NetworkStates
 pub mod Demand1
 pub mod SameNode
 pub mod Turns
@@ -35,13 +35,14 @@ pub mod Readings
 pub mod Unrelieved
 pub mod Hidden
 pub mod Gap
+pub mod ReplyJoins
 pub mod Service
 pub mod Owed
 pub mod Replies
 pub mod Anew
 pub mod Restarts
-pub mod ReplyJoins
 pub mod Effects
+pub mod Node1
 pub mod EffectsMet
 pub mod Positions
 pub mod ErrorList
@@ -50,7 +51,6 @@ pub mod Kept
 pub mod ReadsOn
 pub mod Resets
 pub mod ResetsMet
-pub mod Node1
 pub mod Worked
 pub mod Demand2
 pub mod Demand3

@@ -44,7 +44,7 @@ first-withdrawn x xs (k ∷ ks) =
     (λ e. rw (ne-eqb x k (λ q. eqb-false k x e (sym q)), e) (first-withdrawn x (withdraw xs k) ks))
 
 -- Two lists withdraw the same from a line if they agree on the kinds that wait in it.
-pub withdrawn-alike : (ws ks ls : List ℕ) → Kinds places ws → ((k : Kind) → has (number k) ws ≡ true → has (number k) ks ≡ has (number k) ls) → withdraws ws ks ≡ withdraws ws ls
+withdrawn-alike : (ws ks ls : List ℕ) → Kinds places ws → ((k : Kind) → has (number k) ws ≡ true → has (number k) ks ≡ has (number k) ls) → withdraws ws ks ≡ withdraws ws ls
 withdrawn-alike [] ks ls h a = none-withdrawn ks ∙ sym (none-withdrawn ls)
 withdrawn-alike (x ∷ xs) ks ls h a =
     let its-number = number-is x (h .0) (h .1) in
@@ -56,10 +56,10 @@ withdrawn-alike (x ∷ xs) ks ls h a =
     ∙ sym (first-withdrawn x xs ls)
 
 -- The reply, and before it the emergency if it is to join: those who do not wait yet stand at the end.
-abbrev pub joining : Bool → List ℕ
+abbrev joining : Bool → List ℕ
 joining e = cond e (line.emergency ∷ line.sdoReply ∷ []) (line.sdoReply ∷ [])
 
-pub reply-joins : (e : Bool) (ws : List ℕ) → has line.sdoReply ws ≡ false → joins ws (joining e) ≡ ws ++ joining (e && not (has line.emergency ws))
+reply-joins : (e : Bool) (ws : List ℕ) → has line.sdoReply ws ≡ false → joins ws (joining e) ≡ ws ++ joining (e && not (has line.emergency ws))
 reply-joins false ws n = rw (join-is ws line.sdoReply, n)
 reply-joins true ws n =
     test (has line.emergency ws)

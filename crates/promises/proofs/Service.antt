@@ -55,7 +55,7 @@ module _ (h : Head) (f : Received) where
           record { hears = heard-as (d .0); identifier = eqb-true _ _ (d .1); length = eqb-true _ _ (c .1); live = b .1; free = not-true _ (a .1) }
 
   module _ (v : Valid h) where
-    pub serves-it : Requests h f → aborting (f .bytes) ≡ false → meant h (receive f) ≡ serve (replyDue h f)
+    serves-it : Requests h f → aborting (f .bytes) ≡ false → meant h (receive f) ≡ serve (replyDue h f)
     serves-it r a = requests h f v r ∙ rw (sdo-laws (h .core .device) (isIn operational (h .core)) (f .bytes) .replied, a)
 
     pub gets-what-is-due : Requests h f → aborting (f .bytes) ≡ false → Replied h f (received h f .head)

@@ -33,7 +33,7 @@ ordered (tpdo two) = refl
 pub has-those : (t : Kind → Bool) (k : Kind) → has (number k) (those t) ≡ t k
 has-those t k = rw (in-turn .exactly (λ n. t (kindOf n)) order (number k), ordered k, kind-of k, and-true (t k))
 
-pub named-those : (t : Kind → Bool) → Named places (those t)
+named-those : (t : Kind → Bool) → Named places (those t)
 named-those t = in-turn .named (λ n. t (kindOf n)) (in-turn .all-named)
 
 -- whether a reply waits, in the line and in its places
