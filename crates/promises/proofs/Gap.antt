@@ -20,9 +20,8 @@ use Rattle.promises.specs.Histories.{after, slots, sent, PowerUp, powere
 use Rattle.promises.specs.FiveSlots.{LeavesBy}
 use Rattle.promises.specs.Gap.{nodeOf, among, lastEmergency, saysMissing, Said, unsaid, said-good, said-missing, isGoodSample, isCommand, stopsOrResets, isOff, heads, Unrelieved, Gap}
 use Rattle.promises.proofs.States.{not-live}
-use Rattle.promises.proofs.Valid.{valid-step}
+use Rattle.promises.proofs.Valid.{valid-step, emergency-exactly}
 use Rattle.promises.proofs.Meant.{core-step}
-use Rattle.promises.proofs.Valid.{emergency-exactly}
 use Rattle.promises.proofs.FiveSlots.{five-slots}
 use Rattle.promises.proofs.Histories.{after-append, valid-after, valid-powered}
 use Rattle.promises.proofs.Inhibit.{inhibit-left, rounded-up}

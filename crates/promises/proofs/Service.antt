@@ -19,9 +19,8 @@ use Rattle.promises.specs.WaitingLine.{sdoReply, flag}
 use Rattle.promises.specs.Acts.{Act, nothing, enter, reset, boot, idle, send, take, lose, time, sync, serve, acted, moments, act}
 use Rattle.promises.specs.Calls.{receive, meant, step, received}
 use Rattle.promises.specs.Valid.{waits, Valid}
-use Rattle.promises.specs.Meant.{Heard, Requests}
+use Rattle.promises.specs.Meant.{Heard, Requests, reply-waits, client-abort}
 use Rattle.promises.specs.Histories.{Reachable}
-use Rattle.promises.specs.Meant.{reply-waits, client-abort}
 use Rattle.promises.specs.Service.{replyDue, Replied, isHeard, isRequest, isAnswered, Serves}
 use Rattle.promises.proofs.Nothing.{step-nothing}
 use Rattle.promises.proofs.Unmeant.{unmeant}
