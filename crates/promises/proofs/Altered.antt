@@ -1,11 +1,14 @@
 -- What a call does to the device: a sample, a reset and a request that is served alter it, and nothing else does.
 use Prim.Native.Nat.{ℕ}
 use lib.Dec.{eqb, ltb}
-use mathlib.Core.Path.{_≡_}
+use mathlib.Core.Path.{_≡_, refl}
 use mathlib.Core.Bool.{true, false}
 use Rattle.cases.proofs.Cases.{by}
 use Rattle.can.specs.declared.Received.{Received}
 use Rattle.entries.specs.declared.Device.{Device}
+use Rattle.dictionary.specs.Writes.{written}
+use Rattle.sdo.specs.declared.reply.Effect.{Effect}
+use Rattle.sdo.specs.declared.reply.Effect.the-variants.{Nothing, Reply, Write}
 use Rattle.sdo.specs.Reply.{carriedOut}
 use Rattle.waiting.specs.Line.{first}
 use Rattle.parts.specs.declared.Head.{Head}
@@ -19,6 +22,13 @@ use Rattle.promises.specs.Meant.{Commands, Requests}
 use Rattle.promises.specs.Service.{replyDue}
 use Rattle.promises.proofs.Meant.{core-step}
 use Rattle.promises.proofs.Causes.{Cause, cause}
+
+-- a request alters neither the node number nor the reading
+pub carried : (d : Device) (e : Effect) → (carriedOut d e .node ≡ d .node) × (carriedOut d e .reading ≡ d .reading)
+unfolding written
+carried d Nothing = (refl, refl)
+carried d Reply = (refl, refl)
+carried d (Write k v) = (refl, refl)
 
 -- the device after the call
 pub data Altered (h : Head) : Call → Device → Type 0 where

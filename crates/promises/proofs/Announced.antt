@@ -1,21 +1,14 @@
 -- What is counted as announced is what the last emergency frame since boot-up said.
 use Prim.Native.Nat.{ℕ}
-use mathlib.Core.Path.{_≡_, refl, ap, _∙_}
+use mathlib.Core.Path.{_≡_, refl, _∙_}
 use mathlib.Core.Bool.{Bool, true, false}
 use mathlib.Core.List.{List, [], _∷_, _++_}
 use mathlib.Core.Option.{Option, none}
-use Rattle.cases.proofs.Cases.{by, by₂, test, true-false}
+use Rattle.cases.proofs.Cases.{test, true-false}
 use Rattle.can.specs.declared.Frame.{Frame}
-use Rattle.entries.specs.declared.Device.{Device}
-use Rattle.cases.specs.Tests.{within}
-use Rattle.dictionary.specs.Writes.{written}
 use Rattle.dictionary.specs.Valid.{ValidDevice}
-use Rattle.sdo.specs.declared.reply.Effect.{Effect}
-use Rattle.sdo.specs.declared.reply.Effect.the-variants.{Nothing, Reply, Write}
-use Rattle.sdo.specs.Reply.{carriedOut}
 use Rattle.parts.specs.declared.Core.{Core}
 use Rattle.parts.specs.declared.Head.{Head}
-use Rattle.parts.specs.declared.Answer.{Answer}
 use Rattle.promises.specs.States.{isInitialising, node, good}
 use Rattle.promises.specs.WaitingLine.{Kind, emergency, sdoReply, heartbeat, tpdo, may, frameOf}
 use Rattle.promises.specs.Acts.{Act, nothing, enter, reset, boot, idle, send, take, lose, time, sync, serve, sending, acted, frameBy}
@@ -27,42 +20,9 @@ use Rattle.promises.proofs.Fits.{Fits, fits}
 use Rattle.promises.proofs.States.{Fresh}
 use Rattle.promises.proofs.Valid.{valid-step}
 use Rattle.promises.proofs.Meant.{core-step}
+use Rattle.promises.proofs.SameNode.{node-step, node-powered}
 use Rattle.promises.proofs.Known.{framed, frames-by, sent-waits, known, known-boot-up}
-use Rattle.promises.proofs.Histories.{valid-powered}
-
--- A request alters neither the node number nor the reading.
-pub carried : (d : Device) (e : Effect) → (carriedOut d e .node ≡ d .node) × (carriedOut d e .reading ≡ d .reading)
-unfolding written
-carried d Nothing = (refl, refl)
-carried d Reply = (refl, refl)
-carried d (Write k v) = (refl, refl)
-
--- No call alters the node number.
-node-act : (c : Core) (a : Act) → node (acted c a) ≡ node c
-node-act c nothing = refl
-node-act c (enter g) = refl
-node-act c (reset r) = refl
-node-act c boot = refl
-node-act c idle = refl
-node-act c (send emergency) = refl
-node-act c (send sdoReply) = refl
-node-act c (send heartbeat) = refl
-node-act c (send (tpdo w)) = refl
-node-act c (take r) = refl
-node-act c lose = refl
-node-act c time = refl
-node-act c sync = refl
-node-act c (serve s) = carried (c .device) (s .effect) .0
-
-pub node-step : (h : Head) (x : Call) → node (step h x .core) ≡ node (h .core)
-node-step h x = ap (λ c. node c) (core-step h x) ∙ node-act (h .core) (meant h x)
-
-pub node-after : (h : Head) (cs : List Call) → node (after h cs .core) ≡ node (h .core)
-node-after h [] = refl
-node-after h (x ∷ cs) = node-after (step h x) cs ∙ node-step h x
-
-pub node-powered : (p : PowerUp) → node (powered p .core) ≡ nodeOf p
-node-powered p = by₂ (λ (a : Answer) (n : ℕ). node (a .head .core) ≡ n) (within 1 127 (p .number)) (λ _. refl) (λ _. refl)
+use Rattle.promises.proofs.Histories.{at-power-up, valid-powered}
 
 last-append : (n : ℕ) (last : Option Frame) (xs ys : List Frame) → lastAfter n last (xs ++ ys) ≡ lastAfter n (lastAfter n last xs) ys
 last-append n last [] ys = refl
@@ -101,11 +61,11 @@ announced-after : (n : ℕ) (cs : List Call) (h : Head) (last : Option Frame) �
 announced-after n [] h last q v s = s
 announced-after n (x ∷ cs) h last q v s =
     rw (last-append n last (frames h x) (sent (step h x) cs))
-    (announced-after n cs (step h x) (lastAfter n last (frames h x)) (node-step h x ∙ q) (valid-step h x v)
+    (announced-after n cs (step h x) (lastAfter n last (frames h x)) (node-step h v x ∙ q) (valid-step h x v)
     (rw (frames-by h v x, core-step h x)
     (announced-act n last (h .core) q (v .device) s (isSlot x) (meant h x) (fits h x) (v .fresh) (λ k e. v .only k (sent-waits h v x k e)))))
 
 pub announced : (p : PowerUp) (cs : List Call) → Announced (nodeOf p) (lastEmergency (nodeOf p) (sent (powered p) cs)) (after (powered p) cs .core)
 announced p cs =
     announced-after (nodeOf p) cs (powered p) none (node-powered p) (valid-powered p)
-    (by (λ (a : Answer). Announced (nodeOf p) none (a .head .core)) (within 1 127 (p .number)) (λ _ _. unsaid) (λ _ _. unsaid))
+    (at-power-up (λ h. Announced (nodeOf p) none (h .core)) (λ _ _ _. unsaid) p)

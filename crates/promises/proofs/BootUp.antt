@@ -7,7 +7,6 @@ use mathlib.Core.Bool.{true, false}
 use mathlib.Core.List.{List, [], _∷_}
 use Rattle.cases.proofs.Cases.{by, test, true-false}
 use Rattle.waiting.specs.Line.{has}
-use Rattle.parts.specs.declared.Core.{Core}
 use Rattle.parts.specs.declared.Head.{Head}
 use Rattle.parts.specs.declared.Sensor.the-variants.{Missing, Raw}
 use Rattle.promises.specs.States.{isInitialising, node}
@@ -23,28 +22,26 @@ use Rattle.promises.proofs.Valid.{valid-step}
 use Rattle.promises.proofs.Unmeant.{unmeant}
 use Rattle.promises.proofs.Slots.{answers, boots as boots-now, none-waits}
 use Rattle.promises.proofs.Meant.{core-step}
+use Rattle.promises.proofs.SameNode.{node-step}
 
--- In Initialising no call but a slot leaves it, and each leaves the node number.
-abbrev Starting : ℕ → Core → Type 0
-Starting n c = (isInitialising c ≡ true) × (node c ≡ n)
+-- In Initialising no call but a slot leaves it.
+starting-stays : (h : Head) (c : Call) → Valid h → isInitialising (h .core) ≡ true → isSlot c ≡ false → isInitialising (step h c .core) ≡ true
+starting-stays h (receive f) v i s = rw (step-nothing h (receive f) refl (unmeant h f v (not-booted i))) i
+starting-stays h tick v i s = rw (step-nothing h tick refl (rw i)) i
+starting-stays h (sample Missing) v i s = rw (core-step h (sample Missing)) i
+starting-stays h (sample (Raw r)) v i s = rw (core-step h (sample (Raw r))) (by (λ a. isInitialising (acted (h .core) a) ≡ true) (ltb 1048575 r) (λ _. i) (λ _. i))
+starting-stays h slot v i s = true-false s
 
-starting-stays : (n : ℕ) (h : Head) (c : Call) → Valid h → Starting n (h .core) → isSlot c ≡ false → Starting n (step h c .core)
-starting-stays n h (receive f) v i s = rw (step-nothing h (receive f) refl (unmeant h f v (not-booted (i .0)))) i
-starting-stays n h tick v i s = rw (step-nothing h tick refl (rw (i .0))) i
-starting-stays n h (sample Missing) v i s = rw (core-step h (sample Missing)) i
-starting-stays n h (sample (Raw r)) v i s = rw (core-step h (sample (Raw r))) (by (λ a. Starting n (acted (h .core) a)) (ltb 1048575 r) (λ _. i) (λ _. i))
-starting-stays n h slot v i s = true-false s
-
-pub boots : (n : ℕ) (cs : List Call) (h : Head) → Valid h → Starting n (h .core) → slots cs ≡ 0 → BootUpWaits n (after h cs)
-boots n [] h v i z =
-    let b = answers h (boots-now h (i .0)) in
+pub boots : (n : ℕ) (cs : List Call) (h : Head) → Valid h → isInitialising (h .core) ≡ true → node (h .core) ≡ n → slots cs ≡ 0 → BootUpWaits n (after h cs)
+boots n [] h v i q z =
+    let b = answers h (boots-now h i) in
     record {
-      initialising = i .0;
-      only = λ k. ap (has (number k)) (none-waits h v (i .0));
+      initialising = i;
+      only = λ k. ap (has (number k)) (none-waits h v i);
       waited = b .0;
-      answer = b .1 ∙ ap (λ m. frame (0x700 + m) 1 (0x00 ∷ [])) (i .1);
+      answer = b .1 ∙ ap (λ m. frame (0x700 + m) 1 (0x00 ∷ [])) q;
     }
-boots n (c ∷ cs) h v i z =
+boots n (c ∷ cs) h v i q z =
     test (isSlot c)
     (λ s. absurd (omega (arith, rw s at z)))
-    (λ s. boots n cs (step h c) (valid-step h c v) (starting-stays n h c v i s) (omega (arith, rw s at z)))
+    (λ s. boots n cs (step h c) (valid-step h c v) (starting-stays h c v i s) (node-step h v c ∙ q) (omega (arith, rw s at z)))

@@ -1,25 +1,26 @@
 -- What a frame means, by which frame it is; and the other way, which frame it was, by what it means.
-use Prim.Native.Nat.{_+_}
+use Prim.Native.Nat.{ℕ, _+_}
 use native.Mathlib.Omega.{arith}
 use lib.Dec.{eqb, leb}
-use mathlib.Core.Path.{_≡_, refl, sym, _∙_}
+use mathlib.Core.Path.{_≡_, refl, sym, ap, _∙_}
 use mathlib.Core.Bool.{true, false, not, _&&_}
 use borrow.Author.Tests.{eqb-true, eq-eqb, ne-eqb, leb-true, not-true}
 use Rattle.cases.proofs.Cases.{by, both}
 use Rattle.can.specs.declared.Received.{Received}
-use Rattle.sdo.specs.Reply.{replies}
-use Rattle.sdo.specs.Service.{answer}
+use Rattle.sdo.specs.Reply.{replies, confirmed}
+use Rattle.sdo.specs.Service.{Due, answer}
 use Rattle.waiting.specs.Line as line
-use Rattle.waiting.specs.Line.{places, has}
-use Rattle.waiting.proofs.Laws.{laws}
+use Rattle.waiting.specs.Line.{has}
 use Rattle.parts.specs.declared.Head.{Head}
 use Rattle.promises.specs.States.{operational, isIn, isLive, node, Command, noCommand, toEnter, toReset, commandOf}
 use Rattle.promises.specs.WaitingLine.{sdoReply}
-use Rattle.promises.specs.Acts.{Act, nothing, enter, reset, boot, idle, send, take, lose, time, sync, serve}
-use Rattle.promises.specs.Calls.{receive, commanded, served, meant}
-use Rattle.promises.specs.Valid.{waits, Valid}
-use Rattle.promises.specs.Meant.{Heard, Commands, Requests, Synchronises, dueTo}
+use Rattle.promises.specs.Acts.{Act, nothing, enter, reset, boot, idle, send, take, lose, time, sync, serve, acted}
+use Rattle.promises.specs.Calls.{receive, commanded, served, meant, step}
+use Rattle.promises.specs.Valid.{Valid}
+use Rattle.promises.specs.Meant.{Heard, Commands, Requests, Synchronises, Writes, dueTo}
+use Rattle.promises.proofs.Waits.{reply-waiting}
 use Rattle.promises.proofs.Hearing.{heard-by}
+use Rattle.promises.proofs.Meant.{core-step}
 
 -- Which frame it was; the acts that no frame means are none of these.
 abbrev pub Cause : Head → Received → Act → Type 0
@@ -36,10 +37,6 @@ Cause h f sync = Synchronises h f
 Cause h f (serve s) = Requests h f × (s ≡ answer (f .bytes) (dueTo h f))
 
 module _ (h : Head) (f : Received) (v : Valid h) where
-  -- whether a reply waits, in the line and in its places
-  reply-waits : has line.sdoReply (h .line) ≡ waits h sdoReply
-  reply-waits = laws places .waits line.sdoReply (omega arith) (v .line)
-
   pub requests : Requests h f → meant h (receive f) ≡ served (answer (f .bytes) (dueTo h f))
   requests r =
       rw (
@@ -50,9 +47,16 @@ module _ (h : Head) (f : Received) (v : Valid h) where
         eq-eqb (f .identifier) (0x600 + node (h .core)) (r .identifier),
         eq-eqb _ _ (r .length),
         r .live,
-        reply-waits,
+        reply-waiting h v,
         r .free,
       )
+
+  -- by what is due
+  pub means : Requests h f → {y : Due} → dueTo h f ≡ y → meant h (receive f) ≡ served (answer (f .bytes) y)
+  means r e = requests r ∙ ap (λ y. served (answer (f .bytes) y)) e
+
+  pub writes : {k n : ℕ} → Writes h f k n → step h (receive f) .core ≡ acted (h .core) (serve (confirmed (f .bytes) k n))
+  writes w = core-step h (receive f) ∙ ap (acted (h .core)) (means (w .requests) (w .accepted))
 
   by-command : (x : Heard h f) → f .identifier ≡ 0x000 → (k : Command) → commandOf (node (h .core)) f ≡ k → Cause h f (commanded (h .core) k)
   by-command x i noCommand e = tt
@@ -64,7 +68,7 @@ module _ (h : Head) (f : Received) (v : Valid h) where
       let free = not (has line.sdoReply (h .line)) in
       let u = both (eqb (f .length) 8 && isLive (h .core)) free t in
       let w = both (eqb (f .length) 8) (isLive (h .core)) (u .0) in
-      record { hears = x; identifier = i; length = eqb-true (f .length) 8 (w .0); live = w .1; free = sym reply-waits ∙ not-true _ (u .1) }
+      record { hears = x; identifier = i; length = eqb-true (f .length) 8 (w .0); live = w .1; free = sym (reply-waiting h v) ∙ not-true _ (u .1) }
 
   pub by-sync : (x : Heard h f) → f .identifier ≡ 0x080 → (leb (f .length) 1 && isIn operational (h .core)) ≡ true → Synchronises h f
   by-sync x i t =

@@ -39,7 +39,7 @@ use Rattle.promises.proofs.Meant.{core-step, commands}
 use Rattle.promises.proofs.Causes.{Cause, cause}
 use Rattle.promises.proofs.NetworkStates.{network-states}
 use Rattle.promises.proofs.Histories.{valid-after, valid-powered}
-use Rattle.promises.proofs.Announced.{node-step, node-after, node-powered}
+use Rattle.promises.proofs.SameNode.{node-step, node-after, node-powered}
 use Rattle.promises.proofs.Spoken.{commands-so}
 
 abbrev codeOf : Core → ℕ
@@ -146,7 +146,7 @@ module _ (n : ℕ) (h : Head) (q : node (h .core) ≡ n) (v : Valid h) where
 code-after : (n : ℕ) (cs : List Call) (h : Head) (x : ℕ) → node (h .core) ≡ n → Valid h → codeOf (h .core) ≡ x → codeOf (after h cs .core) ≡ codeFrom n x cs
 code-after n [] h x q v e = e
 code-after n (y ∷ cs) h x q v e =
-    code-after n cs (step h y) (codeBy n x y) (node-step h y ∙ q) (valid-step h y v) (code-step n h q v y ∙ ap (λ z. codeBy n z y) e)
+    code-after n cs (step h y) (codeBy n x y) (node-step h v y ∙ q) (valid-step h y v) (code-step n h q v y ∙ ap (λ z. codeBy n z y) e)
 
 code-is : (p : PowerUp) (cs : List Call) → codeOf (after (powered p) cs .core) ≡ codeAfter (nodeOf p) cs
 code-is p cs =
@@ -177,7 +177,7 @@ codes =
       beats = λ p cs e.
           let h : Head = after (powered p) cs in
           let s = sends h (valid p cs) heartbeat (omega arith) e in
-          (s .0, s .1 ∙ ap (λ n. frame (0x700 + n) 1 (codeOf (h .core) ∷ [])) (node-after (powered p) cs ∙ node-powered p) ∙ ap (λ x. frame (0x700 + nodeOf p) 1 (x ∷ [])) (code-is p cs));
+          (s .0, s .1 ∙ ap (λ n. frame (0x700 + n) 1 (codeOf (h .core) ∷ [])) (node-after (powered p) (valid-powered p) cs ∙ node-powered p) ∙ ap (λ x. frame (0x700 + nodeOf p) 1 (x ∷ [])) (code-is p cs));
       shows = λ p cs w e.
           let h : Head = after (powered p) cs in
           let s = sends-pdo h (valid p cs) w e in

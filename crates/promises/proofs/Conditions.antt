@@ -1,9 +1,9 @@
 -- A kind's condition taken apart, and what it is after a write.
 use Prim.Native.Nat.{ℕ}
 use lib.Dec.{eqb}
-use mathlib.Core.Path.{_≡_, refl}
+use mathlib.Core.Path.{_≡_, refl, ap, _∙_}
 use mathlib.Core.List.{List}
-use mathlib.Core.Bool.{Bool, true, not, _&&_, Bool·beq, cond}
+use mathlib.Core.Bool.{Bool, true, not, _&&_, Bool·beq, cond, Bool·not-not, and-true}
 use borrow.Author.Tests.{eqb-true}
 use Rattle.cases.proofs.Cases.{both, test}
 use Rattle.dictionary.specs.Accepted.{on}
@@ -11,9 +11,10 @@ use Rattle.dictionary.specs.Writes.{ownKey, written}
 use Rattle.sdo.specs.Reply.{confirmed}
 use Rattle.parts.specs.declared.Core.{Core}
 use Rattle.promises.specs.States.{operational, isIn, isInitialising, isLive, good, communication, Which, one, two, pdo}
-use Rattle.promises.specs.WaitingLine.{emergency, heartbeat, tpdo, may, mayAlert, mayBeat, mayShow}
+use Rattle.promises.specs.WaitingLine.{Kind, emergency, sdoReply, heartbeat, tpdo, may, mayAlert, mayBeat, mayShow}
 use Rattle.promises.specs.Acts.{serve, acted}
 use Rattle.promises.specs.Withdrawals.{identifierKey}
+use Rattle.promises.specs.Effects.{takes}
 
 pub record Alerts (c : Core) : Type 0 where
   pub lives : isLive c ≡ true
@@ -46,6 +47,7 @@ shows c w y =
     let t = both (isIn operational c) (on (pdo (communication c) w .identifier)) (u .0) in
     record { operates = t .0; is-on = t .1; is-good = u .1 }
 
+-- 6200h is 1800-5, and no identifier
 pub own-identifier : (k : ℕ) → eqb (ownKey k) 0x1800_01 ≡ eqb k 0x1800_01
 own-identifier k = test (eqb k 0x6200_00) (λ e. rw (eqb-true k 0x6200_00 e)) (λ e. rw e)
 
@@ -65,3 +67,20 @@ module _ (c : Core) (f : List ℕ) (k v : ℕ) where
   unfolding written
   show-written one = rw (own-identifier k)
   show-written two = refl
+
+-- A write of v ends a condition exactly if it is that of its setting and v does; t: it is.
+module _ (c : Core) (t : Bool) (v : ℕ) where
+  alert-ends : may c emergency ≡ true → not (mayAlert (c .nmt) (cond t v (communication c .emergency)) (c .timers .inhibit) (good c) (c .announced)) ≡ (t && not (on v))
+  alert-ends m = let s = alerts c m in test t (λ e. rw (e, s .lives, s .rested, s .differs) (simp and-true)) (λ e. rw e (ap not m))
+
+  beat-ends : may c heartbeat ≡ true → not (mayBeat (c .nmt) (cond t v (communication c .heartbeat))) ≡ (t && eqb v 0)
+  beat-ends m = test t (λ e. rw (e, beats c m .0) (Bool·not-not (eqb v 0))) (λ e. rw e (ap not m))
+
+  show-ends : (w : Which) → may c (tpdo w) ≡ true → not (mayShow (c .nmt) (cond t v (pdo (communication c) w .identifier)) (good c)) ≡ (t && not (on v))
+  show-ends w m = let s = shows c w m in test t (λ e. rw (e, s .operates, s .is-good) (simp and-true)) (λ e. rw e (ap not m))
+
+pub ends : (c : Core) (f : List ℕ) (k v : ℕ) (x : Kind) → may c x ≡ true → not (may (acted c (serve (confirmed f k v))) x) ≡ takes k v x
+ends c f k v emergency m = ap not (alert-written c f k v) ∙ alert-ends c (eqb k 0x1014_00) v m
+ends c f k v sdoReply m = ap not m
+ends c f k v heartbeat m = ap not (beat-written c f k v) ∙ beat-ends c (eqb k 0x1017_00) v m
+ends c f k v (tpdo w) m = ap not (show-written c f k v w) ∙ show-ends c (eqb k (identifierKey w)) v w m

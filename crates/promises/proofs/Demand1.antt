@@ -6,7 +6,7 @@ use mathlib.Core.Path.{_≡_, refl, sym, ap, _∙_}
 use mathlib.Core.Logic.{_↔_, _⊎_, inl, inr, ⊎-elim}
 use mathlib.Core.Bool.{Bool, true, false, not, _&&_, _||_, or-false}
 use mathlib.Core.List.{[], _∷_, _++_}
-use borrow.Author.Tests.{leb-true, leb-false, le-leb, ltb-true, ltb-false, lt-ltb, le-ltb}
+use borrow.Author.Tests.{leb-true, leb-false, le-leb, ltb-true, ltb-false, lt-ltb, le-ltb, not-true}
 use Rattle.cases.proofs.Cases.{by, both, true-false}
 use Rattle.can.specs.declared.Received.{Received}
 use Rattle.can.specs.Frame.{badIdentifier, badLength}
@@ -86,11 +86,7 @@ module _ (h : Head) (f : Received) (v : Valid h) where
   as-command x i (toReset r) e = inl (to-reset r (record { hears = x; identifier = i; says = e }))
 
   as-request : Requests h f → replies (answer (f .bytes) (dueTo h f) .effect) ≡ true → MeantFor h f
-  as-request r t = to-serve r (unaborted (aborting (f .bytes)) (sym (sdo-laws (h .core .device) (isIn operational (h .core)) (f .bytes) .replied) ∙ t))
-    where
-      unaborted : (b : Bool) → not b ≡ true → b ≡ false
-      unaborted true e = sym e
-      unaborted false e = refl
+  as-request r t = to-serve r (not-true (aborting (f .bytes)) (sym (sdo-laws (h .core .device) (isIn operational (h .core)) (f .bytes) .replied) ∙ t))
 
   means : Due (meant h (receive f))
   means =

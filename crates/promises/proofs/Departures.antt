@@ -20,7 +20,8 @@ use Rattle.promises.proofs.Waits.{waits-act, sends}
 use Rattle.promises.proofs.Valid.{valid-step}
 use Rattle.promises.proofs.Slots.{answers, none-waits, sends-first}
 use Rattle.promises.proofs.Meant.{core-step, leaves}
-use Rattle.promises.proofs.Withdrawals.{listed, ended}
+use Rattle.promises.proofs.Withdrawals.{listed}
+use Rattle.promises.proofs.Ended.{ended}
 
 no-zero : (k : Kind) → 0 ≡ number k → ⊥
 no-zero emergency e = omega arith

@@ -14,22 +14,29 @@ use Rattle.dictionary.specs.Writes.{written}
 use Rattle.sdo.specs.declared.reply.Effect.the-variants.{Reply}
 use Rattle.sdo.specs.Request.{indexOf, subOf}
 use Rattle.sdo.specs.Reply.{confirmed}
-use Rattle.sdo.specs.Service.{Due, confirmation, answer}
+use Rattle.sdo.specs.Service.{confirmation, answer}
 use Rattle.sdo.specs.Laws.{Confirmed, Told}
 use Rattle.sdo.proofs.Laws.{laws as sdo-laws}
 use Rattle.parts.specs.declared.Head.{Head}
 use Rattle.promises.specs.States.{operational, isIn}
 use Rattle.promises.specs.Acts.{serve, settledTo, act}
-use Rattle.promises.specs.Calls.{receive, served, meant, received}
+use Rattle.promises.specs.Calls.{receive, meant, received}
 use Rattle.promises.specs.Valid.{Valid}
 use Rattle.promises.specs.Meant.{Requests, dueTo}
 use Rattle.promises.specs.Effects.{effects, anew, readBack, OnlyReplied, Effects, Served, ServedRightly}
 use Rattle.promises.proofs.Nothing.{step-nothing}
-use Rattle.promises.proofs.Causes.{requests}
+use Rattle.promises.proofs.Causes.{means}
 use Rattle.promises.proofs.Histories.{valid-reachable}
 use Rattle.promises.proofs.Anew.{reads-after, own-after, untouched}
 use Rattle.promises.proofs.Restarts.{counts}
 use Rattle.promises.proofs.ReplyJoins.{only-reply, write-line, write-waits}
+
+-- where an accepted write goes, and that it is taken there
+pub told : (h : Head) (f : Received) {k v : ℕ} → dueTo h f ≡ confirmation k v → Confirmed (h .core .device) (f .bytes) (lookup (indexOf (f .bytes)) (subOf (f .bytes))) k v
+told h f e =
+    let d = h .core .device in
+    let o = isIn operational (h .core) in
+    subst (Told d o (f .bytes) (lookup (indexOf (f .bytes)) (subOf (f .bytes)))) e (sdo-laws d o (f .bytes) .told)
 
 module _ (h : Head) (f : Received) (valid : Valid h) (r : Requests h f) where
   abbrev d : Device
@@ -37,9 +44,6 @@ module _ (h : Head) (f : Received) (valid : Valid h) (r : Requests h f) where
 
   abbrev o : Bool
   o = isIn operational (h .core)
-
-  means : {y : Due} → dueTo h f ≡ y → meant h (receive f) ≡ served (answer (f .bytes) y)
-  means e = requests h f valid r ∙ ap (λ y. served (answer (f .bytes) y)) e
 
   -- by a reply of these bytes, which has no other effect
   replied : (bytes : List ℕ) → answer (f .bytes) (dueTo h f) .bytes ≡ bytes → meant h (receive f) ≡ serve (record { bytes = bytes; effect = Reply })
@@ -59,19 +63,19 @@ module _ (h : Head) (f : Received) (valid : Valid h) (r : Requests h f) where
       subst (λ a. OnlyReplied f h (act false h a)) (sym m) after
 
   module _ (k v : ℕ) (e : dueTo h f ≡ confirmation k v) where
-    pub told : Confirmed d (f .bytes) (lookup (indexOf (f .bytes)) (subOf (f .bytes))) k v
-    told = subst (Told d o (f .bytes) (lookup (indexOf (f .bytes)) (subOf (f .bytes)))) e (sdo-laws d o (f .bytes) .told)
+    abbrev its : Confirmed d (f .bytes) (lookup (indexOf (f .bytes)) (subOf (f .bytes))) k v
+    its = told h f e
 
     reads-anew : (i j : ℕ) → reads (written d k v) o i j ≡ anew (effects d o k v) (keyOf i j) (reads d o i j)
     reads-anew i j =
-        subst (λ n. reads (written d n v) o i j ≡ anew (effects d o n v) (keyOf i j) (reads d o i j)) (sym (told .key))
-        (reads-after d o (told .place) v (valid .device) (told .takes) i j)
+        subst (λ n. reads (written d n v) o i j ≡ anew (effects d o n v) (keyOf i j) (reads d o i j)) (sym (its .key))
+        (reads-after d o (its .place) v (valid .device) (its .takes) i j)
 
     own : reads (written d k v) o (indexOf (f .bytes)) (subOf (f .bytes)) ≡ some (Number (readBack k v))
     own =
-        ap (readOf (written d k v) o) (told .found)
-        ∙ subst (λ n. readOf (written d n v) o (At (told .place)) ≡ some (Number (readBack n v))) (sym (told .key))
-        (ap some (own-after d o (told .place) v (valid .device) (told .takes)))
+        ap (readOf (written d k v) o) (its .found)
+        ∙ subst (λ n. readOf (written d n v) o (At (its .place)) ≡ some (Number (readBack n v))) (sym (its .key))
+        (ap some (own-after d o (its .place) v (valid .device) (its .takes)))
 
     accepted : Effects f k v h (received h f .head)
     unfolding act settledTo written
@@ -93,14 +97,14 @@ module _ (h : Head) (f : Received) (valid : Valid h) (r : Requests h f) where
           line = write-line h valid (r .live) (r .free) (f .bytes) k v;
           who-waits = write-waits h valid (r .live) (r .free) (f .bytes) k v;
         } in
-        subst (λ a. Effects f k v h (act false h a)) (sym (means e)) after
+        subst (λ a. Effects f k v h (act false h a)) (sym (means h f valid r e)) after
 
   serves : Served h f
   serves =
       record {
-        aborted = λ code e. replied _ (ap (λ y. answer (f .bytes) y .bytes) e) (means e);
-        read = λ width n e. replied _ (ap (λ y. answer (f .bytes) y .bytes) e) (means e);
-        client-aborts = λ e. step-nothing h (receive f) refl (means e);
+        aborted = λ code e. replied _ (ap (λ y. answer (f .bytes) y .bytes) e) (means h f valid r e);
+        read = λ width n e. replied _ (ap (λ y. answer (f .bytes) y .bytes) e) (means h f valid r e);
+        client-aborts = λ e. step-nothing h (receive f) refl (means h f valid r e);
         accepted = accepted;
       }
 

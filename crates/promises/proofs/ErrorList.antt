@@ -14,7 +14,6 @@ use Rattle.entries.specs.declared.Device.{Device}
 use Rattle.entries.specs.declared.Reading.{Reading}
 use Rattle.entries.specs.Table.{entries, table, lookup}
 use Rattle.dictionary.specs.declared.read.Shown.the-variants.{Number}
-use Rattle.cases.specs.Tests.{within}
 use Rattle.dictionary.specs.Reads.{shownAt}
 use Rattle.dictionary.specs.Writes.{written}
 use Rattle.dictionary.specs.Laws.{Shows}
@@ -22,10 +21,7 @@ use Rattle.dictionary.proofs.ReadBack.{emptied}
 use Rattle.dictionary.proofs.Laws.{shows}
 use Rattle.sdo.specs.Reply.{carriedOut}
 use Rattle.sdo.specs.Service.{Due, none, value, confirmation, abort, answer}
-use Rattle.sdo.specs.Laws.{Confirmed}
-use Rattle.sdo.proofs.Laws.{laws as sdo-laws}
 use Rattle.parts.specs.declared.Head.{Head}
-use Rattle.parts.specs.declared.Answer.{Answer}
 use Rattle.parts.specs.declared.Sensor.{Sensor}
 use Rattle.parts.specs.declared.Sensor.the-variants.{Missing, Raw}
 use Rattle.promises.specs.States.{operational, isIn}
@@ -38,10 +34,11 @@ use Rattle.promises.specs.Readings.{sampleBy, readingOf}
 use Rattle.promises.specs.ErrorList.{isCount, empties, lossesBy, losses, shownError, ErrorList}
 use Rattle.promises.proofs.Valid.{valid-step}
 use Rattle.promises.proofs.Altered.{Altered, heard, timed, sent, refused, took, lost, restarted, served, altered}
-use Rattle.promises.proofs.Histories.{valid-powered}
+use Rattle.promises.proofs.Histories.{at-power-up, valid-powered}
 use Rattle.promises.proofs.Service.{is-request}
 use Rattle.promises.proofs.Tested.{confirmed-by}
 use Rattle.promises.proofs.Readings.{reading-step, reading-powered}
+use Rattle.promises.proofs.Effects.{told}
 use Rattle.promises.proofs.Positions.{written-by}
 
 -- what 1003h reads
@@ -78,18 +75,16 @@ emptied-errors d v = refl
 
 module _ (h : Head) (f : Received) where
   -- what is written there is 0
-  pub is-emptied : (empties h f ≡ true) ↔ Writes h f 0x1003_00 0
+  is-emptied : (empties h f ≡ true) ↔ Writes h f 0x1003_00 0
   is-emptied = (as-write, λ w. rw (is-request h f .1 (w .requests), w .accepted))
     where
       as-write : empties h f ≡ true → Writes h f 0x1003_00 0
       as-write e =
-          let d = h .core .device in
-          let o = isIn operational (h .core) in
           let u = both (isRequest h f) (confirms isCount (dueTo h f)) e in
           let x = confirmed-by isCount (dueTo h f) (u .1) in
           let y : (v : ℕ) × (dueTo h f ≡ confirmation 0x1003_00 v) = (x .1, x .3 ∙ ap (λ (k : ℕ). confirmation k (x .1)) (eqb-true (x .0) 0x1003_00 (x .2))) in
-          let c : Confirmed d (f .bytes) _ 0x1003_00 (y .0) = rw (y .1) at (sdo-laws d o (f .bytes) .told) in
-          let zero : y .0 ≡ 0 = emptied d o (c .place) (y .0) (c .takes) (eq-eqb _ _ (sym (c .key))) in
+          let c = told h f (y .1) in
+          let zero : y .0 ≡ 0 = emptied (h .core .device) (isIn operational (h .core)) (c .place) (y .0) (c .takes) (eq-eqb _ _ (sym (c .key))) in
           record { requests = is-request h f .0 (u .0); accepted = y .1 ∙ ap (λ (v : ℕ). confirmation 0x1003_00 v) zero }
 
 module _ (h : Head) (s : Sensor) (n : ℕ) (p : h .core .device .reading ≡ readingOf s) (q : h .core .device .errors ≡ min 4 n) where
@@ -130,7 +125,7 @@ errors-after (c ∷ cs) h s n v p q =
     errors-after cs (step h c) (sampleBy s c) (lossesBy h s n c) (valid-step h c v) (reading-step h v s c p) (errors-step h s n p q v c)
 
 none-lost : (p : PowerUp) → powered p .core .device .errors ≡ 0
-none-lost p = by (λ (a : Answer). a .head .core .device .errors ≡ 0) (within 1 127 (p .number)) (λ _. refl) (λ _. refl)
+none-lost = at-power-up (λ h. h .core .device .errors ≡ 0) (λ _ _. refl)
 
 pub error-list : (p : PowerUp) (cs : List Call) → ErrorList p cs
 error-list p cs =

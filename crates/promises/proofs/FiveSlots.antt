@@ -68,7 +68,7 @@ answers h v = by-act (meant h slot) (at-slot h v)
     by-act : (a : Act) → AtSlot h a → Answered h (isFrame (frameBy (h .core) a)) (frameIn (frameBy (h .core) a))
     by-act boot (booting i) = boot-up i (none-waits h v i)
     by-act idle (idling i e) = none i e
-    by-act (send k) (sending j i e) = kind k i e
+    by-act (send k) (sending j i e w) = kind k i e
 
 none-exactly : (h : Head) → Valid h → (slotted h .waited ≡ false) ↔ ((isInitialising (h .core) ≡ false) × ((k : Kind) → waits h k ≡ false))
 none-exactly h v =
@@ -85,7 +85,7 @@ five-slots =
       once = λ h r. valid-reachable h r .line .kinds;
       only-while = λ h r. valid-reachable h r .only;
       lines-up = λ h r c. lined h (valid-reachable h r) c;
-      boots = λ h r i cs z. boots (node (h .core)) cs h (valid-reachable h r) (i, refl) z;
+      boots = λ h r i cs z. boots (node (h .core)) cs h (valid-reachable h r) i refl z;
       answers = λ h r. answers h (valid-reachable h r);
       none-exactly = λ h r. none-exactly h (valid-reachable h r);
     }

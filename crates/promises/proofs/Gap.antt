@@ -4,103 +4,32 @@ use mathlib.Core.Path.{_≡_, refl, sym, ap, _∙_}
 use mathlib.Core.Bool.{Bool, true, false}
 use mathlib.Core.List.{List, [], _∷_, _++_, append-assoc}
 use mathlib.Core.Option.{Option, some}
-use mathlib.Core.Logic.{_⊎_, inl, inr, ⊎-elim}
+use mathlib.Core.Logic.{inr}
 use borrow.Author.Tests.{not-false}
 use Rattle.cases.proofs.Cases.{neither, test, true-false}
 use Rattle.can.specs.declared.Frame.{Frame}
 use Rattle.dictionary.specs.Accepted.{on}
-use Rattle.parts.specs.declared.Core.{Core}
 use Rattle.parts.specs.declared.Head.{Head}
 use Rattle.parts.specs.declared.Sensor.the-variants.{Missing}
-use Rattle.promises.specs.States.{operational, stopped, preOperational, isInitialising, isLive, node, communication, good}
-use Rattle.promises.specs.WaitingLine.{emergency, sdoReply, heartbeat, tpdo, may}
-use Rattle.promises.specs.Acts.{Act, nothing, enter, reset, boot, idle, send, take, lose, time, sync, serve, losing, acted}
-use Rattle.promises.specs.Calls.{Call, sample, meant, step}
+use Rattle.promises.specs.States.{isInitialising, isLive, node, communication, good}
+use Rattle.promises.specs.WaitingLine.{emergency}
+use Rattle.promises.specs.Acts.{losing}
+use Rattle.promises.specs.Calls.{Call, sample, step}
 use Rattle.promises.specs.Valid.{waits, Valid}
 use Rattle.promises.specs.Histories.{after, slots, sent, PowerUp, powered, Reachable}
 use Rattle.promises.specs.FiveSlots.{LeavesBy}
 use Rattle.promises.specs.Gap.{nodeOf, among, lastEmergency, saysMissing, Said, unsaid, said-good, said-missing, isGoodSample, isCommand, stopsOrResets, isOff, heads, Unrelieved, Gap}
 use Rattle.promises.proofs.States.{not-live}
-use Rattle.promises.proofs.Valid.{valid-step}
-use Rattle.promises.proofs.Meant.{core-step, inhibit-after}
-use Rattle.promises.proofs.Valid.{emergency-exactly}
+use Rattle.promises.proofs.Valid.{valid-step, emergency-exactly}
+use Rattle.promises.proofs.Meant.{core-step}
 use Rattle.promises.proofs.FiveSlots.{five-slots}
 use Rattle.promises.proofs.Histories.{after-append, valid-after, valid-powered}
 use Rattle.promises.proofs.Inhibit.{inhibit-left, rounded-up}
-use Rattle.promises.proofs.Relief.{Relief, halted, restarted, no-relief, stays-missing}
+use Rattle.promises.proofs.Unrelieved.{Pending, pending-may, stays-told, stays-pending}
 use Rattle.promises.proofs.Hidden.{no-position, no-position-at-first}
 use Rattle.promises.proofs.Known.{known, known-boot-up}
-use Rattle.promises.proofs.Announced.{node-step, node-after, node-powered, announced}
-
--- Missing, and announced or not held back by an inhibit time.
-record Pending (c : Core) : Type 0 where
-  alive : isLive c ≡ true
-  lost : good c ≡ false
-  free : (c .announced ≡ false) ⊎ (c .timers .inhibit ≡ 0)
-
--- then the emergency waits until it has announced that
-pending-may : (c : Core) → Pending c → on (communication c .emergency) ≡ true → c .announced ≡ true → may c emergency ≡ true
-pending-may c p o n = ⊎-elim (λ t. true-false (sym n ∙ t)) (λ (i : c .timers .inhibit ≡ 0). rw (p .alive, o, i, p .lost, n)) (p .free)
-
-stays-live : (c : Core) (a : Act) → (Relief true a → ⊥) → isLive c ≡ true → isLive (acted c a) ≡ true
-stays-live c nothing n l = l
-stays-live c (enter operational) n l = refl
-stays-live c (enter stopped) n l = absurd (n (halted refl))
-stays-live c (enter preOperational) n l = refl
-stays-live c (reset r) n l = absurd (n (restarted refl r))
-stays-live c boot n l = refl
-stays-live c idle n l = l
-stays-live c (send emergency) n l = l
-stays-live c (send sdoReply) n l = l
-stays-live c (send heartbeat) n l = l
-stays-live c (send (tpdo w)) n l = l
-stays-live c (take r) n l = l
-stays-live c lose n l = l
-stays-live c time n l = l
-stays-live c sync n l = l
-stays-live c (serve s) n l = l
-
--- once announced it stays announced
-stays-told : (c : Core) (a : Act) → (Relief true a → ⊥) → good c ≡ false → c .announced ≡ false → acted c a .announced ≡ false
-stays-told c nothing n g t = t
-stays-told c (enter o) n g t = t
-stays-told c (reset r) n g t = absurd (n (restarted refl r))
-stays-told c boot n g t = t
-stays-told c idle n g t = t
-stays-told c (send emergency) n g t = g
-stays-told c (send sdoReply) n g t = t
-stays-told c (send heartbeat) n g t = t
-stays-told c (send (tpdo w)) n g t = t
-stays-told c (take r) n g t = t
-stays-told c lose n g t = t
-stays-told c time n g t = t
-stays-told c sync n g t = t
-stays-told c (serve s) n g t = t
-
--- only sending the emergency starts an inhibit time, and that announces
-stays-free : (c : Core) (a : Act) → good c ≡ false → c .timers .inhibit ≡ 0 → (acted c a .announced ≡ false) ⊎ (acted c a .timers .inhibit ≡ 0)
-stays-free c nothing g i = inr i
-stays-free c (enter o) g i = inr i
-stays-free c (reset r) g i = inr refl
-stays-free c boot g i = inr refl
-stays-free c idle g i = inr i
-stays-free c (send emergency) g i = inl g
-stays-free c (send sdoReply) g i = inr i
-stays-free c (send heartbeat) g i = inr i
-stays-free c (send (tpdo w)) g i = inr i
-stays-free c (take r) g i = inr i
-stays-free c lose g i = inr i
-stays-free c time g i = inr (rw i)
-stays-free c sync g i = inr i
-stays-free c (serve s) g i = inr (inhibit-after c (s .effect) ∙ i)
-
-pending-act : (c : Core) (a : Act) → (Relief true a → ⊥) → Pending c → Pending (acted c a)
-pending-act c a n p =
-    record {
-      alive = stays-live c a n (p .alive);
-      lost = stays-missing c a n (p .lost);
-      free = ⊎-elim (λ t. inl (stays-told c a n (p .lost) t)) (λ i. stays-free c a (p .lost) i) (p .free);
-    }
+use Rattle.promises.proofs.SameNode.{node-step, node-after, node-powered}
+use Rattle.promises.proofs.Announced.{announced}
 
 says-so : {n : ℕ} {last : Option Frame} {good : Bool} → Said n last good → good ≡ false → last ≡ some (saysMissing n)
 says-so unsaid e = true-false e
@@ -119,23 +48,21 @@ is-on h [] u = not-false _ (neither (isOff h) false (u .alerting) .0)
 is-on h (x ∷ cs) u = not-false _ (neither (isOff h) (among isOff (heads (step h x) cs)) (u .alerting) .0)
 
 module _ {n : ℕ} where
-  no-relief-now : {h : Head} {x : Call} {cs : List Call} → Gapped n h (x ∷ cs) → Relief true (meant h x) → ⊥
-  no-relief-now {h} {x} {cs} g =
-      let u = g .unrelieved in
-      no-relief n true h (g .its-node) (g .valid) x (neither (isGoodSample x) (among isGoodSample cs) (u .missing) .0)
-      (λ _. neither (isCommand n stopsOrResets x) (among (isCommand n stopsOrResets) cs) (u .running) .0)
+  runs : {h : Head} {x : Call} {cs : List Call} → Gapped n h (x ∷ cs) → (isCommand n stopsOrResets x ≡ false) × (among (isCommand n stopsOrResets) cs ≡ false)
+  runs {h} {x} {cs} g = neither (isCommand n stopsOrResets x) (among (isCommand n stopsOrResets) cs) (g .unrelieved .running)
 
   gapped-step : {h : Head} {x : Call} {cs : List Call} → Gapped n h (x ∷ cs) → Gapped n (step h x) cs
   gapped-step {h} {x} {cs} g =
       let u = g .unrelieved in
+      let missing = neither (isGoodSample x) (among isGoodSample cs) (u .missing) in
       record {
         valid = valid-step h x (g .valid);
-        its-node = node-step h x ∙ g .its-node;
-        pending = rw (core-step h x) (pending-act (h .core) (meant h x) (no-relief-now g) (g .pending));
+        its-node = node-step h (g .valid) x ∙ g .its-node;
+        pending = stays-pending n h (g .its-node) (g .valid) x (missing .0) (runs g .0) (g .pending);
         unrelieved = record {
-          missing = neither (isGoodSample x) (among isGoodSample cs) (u .missing) .1;
+          missing = missing .1;
           alerting = neither (isOff h) (among isOff (heads (step h x) cs)) (u .alerting) .1;
-          running = neither (isCommand n stopsOrResets x) (among (isCommand n stopsOrResets) cs) (u .running) .1;
+          running = runs g .1;
         };
       }
 
@@ -149,8 +76,7 @@ module _ {n : ℕ} where
 
   told-after : (cs : List Call) {h : Head} → Gapped n h cs → h .core .announced ≡ false → after h cs .core .announced ≡ false
   told-after [] g t = t
-  told-after (x ∷ cs) {h} g t =
-      told-after cs (gapped-step g) (rw (core-step h x) (stays-told (h .core) (meant h x) (no-relief-now g) (g .pending .lost) t))
+  told-after (x ∷ cs) {h} g t = told-after cs (gapped-step g) (stays-told n h (g .its-node) (g .valid) x (runs g .0) (g .pending .lost) t)
 
   -- where the emergency does not wait, it has announced
   told : {h : Head} {cs : List Call} → Gapped n h cs → waits h emergency ≡ false → h .core .announced ≡ false
@@ -179,7 +105,7 @@ gap-is-told p before cs live lost free u enough =
     let h : Head = after (powered p) before in
     let g : Gapped (nodeOf p) h cs = record {
       valid = valid-after (powered p) before (valid-powered p);
-      its-node = node-after (powered p) before ∙ node-powered p;
+      its-node = node-after (powered p) (valid-powered p) before ∙ node-powered p;
       pending = record { alive = live; lost = lost; free = inr free };
       unrelieved = u;
     } in
@@ -223,4 +149,4 @@ gap =
     valid p cs = valid-after (powered p) cs (valid-powered p)
 
     its-node : (p : PowerUp) (cs : List Call) → node (after (powered p) cs .core) ≡ nodeOf p
-    its-node p cs = node-after (powered p) cs ∙ node-powered p
+    its-node p cs = node-after (powered p) (valid-powered p) cs ∙ node-powered p

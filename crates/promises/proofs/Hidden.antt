@@ -2,12 +2,10 @@
 use mathlib.Core.Path.{_≡_, refl, sym, ap, _∙_}
 use mathlib.Core.Bool.{Bool, true, false}
 use mathlib.Core.List.{List, [], _∷_, _++_}
-use Rattle.cases.proofs.Cases.{by, neither, true-false}
-use Rattle.cases.specs.Tests.{within}
+use Rattle.cases.proofs.Cases.{neither, true-false}
 use Rattle.dictionary.specs.Valid.{ValidDevice}
 use Rattle.parts.specs.declared.Core.{Core}
 use Rattle.parts.specs.declared.Head.{Head}
-use Rattle.parts.specs.declared.Answer.{Answer}
 use Rattle.parts.specs.declared.Sensor.the-variants.{Missing}
 use Rattle.promises.specs.States.{node, good}
 use Rattle.promises.specs.WaitingLine.{Kind, emergency, sdoReply, heartbeat, tpdo, may}
@@ -19,8 +17,8 @@ use Rattle.promises.specs.Gap.{among, isPosition, showsPosition, isGoodS
 use Rattle.promises.proofs.Valid.{valid-step}
 use Rattle.promises.proofs.Meant.{core-step}
 use Rattle.promises.proofs.Conditions.{shows}
-use Rattle.promises.proofs.Histories.{valid-after, valid-powered}
-use Rattle.promises.proofs.Relief.{no-relief, stays-missing}
+use Rattle.promises.proofs.Histories.{at-power-up, valid-after, valid-powered}
+use Rattle.promises.proofs.Readings.{stays-missing}
 use Rattle.promises.proofs.Known.{framed, frames-by, sent-waits, known, known-boot-up}
 
 among-append : {A : Type 0} (t : A → Bool) (xs ys : List A) → among t xs ≡ false → among t ys ≡ false → among t (xs ++ ys) ≡ false
@@ -54,7 +52,7 @@ hidden (x ∷ cs) h v g e =
     let n = neither (isGoodSample x) (among isGoodSample cs) e in
     among-append isPosition (frames h x) (sent (step h x) cs)
     (rw (frames-by h v x) (hides (h .core) (meant h x) (v .device) (λ k m. v .only k (sent-waits h v x k m)) g))
-    (hidden cs (step h x) (valid-step h x v) (rw (core-step h x) (stays-missing (h .core) (meant h x) (no-relief _ false h refl v x (n .0) (λ t. true-false (sym t))) g)) (n .1))
+    (hidden cs (step h x) (valid-step h x v) (stays-missing h v x (n .0) g) (n .1))
 
 pub no-position : (p : PowerUp) (before cs : List Call) → among isGoodSample cs ≡ false → among isPosition (sent (after (powered p) before) (sample Missing ∷ cs)) ≡ false
 no-position p before cs e =
@@ -63,4 +61,4 @@ no-position p before cs e =
 
 pub no-position-at-first : (p : PowerUp) (cs : List Call) → among isGoodSample cs ≡ false → among isPosition (sent (powered p) cs) ≡ false
 no-position-at-first p cs e =
-    hidden cs (powered p) (valid-powered p) (by (λ (a : Answer). good (a .head .core) ≡ false) (within 1 127 (p .number)) (λ _. refl) (λ _. refl)) e
+    hidden cs (powered p) (valid-powered p) (at-power-up (λ h. good (h .core) ≡ false) (λ _ _. refl) p) e

@@ -6,11 +6,12 @@ use mathlib.Core.Path.{_≡_, refl}
 use borrow.Author.Tests.{leb-true}
 use Rattle.cases.proofs.Cases.{by, both}
 use Rattle.entries.specs.declared.Identity.{Identity}
-use Rattle.dictionary.specs.Valid.{ValidIdentity}
+use Rattle.cases.specs.Tests.{within}
 use mathlib.Core.List.{List, [], _∷_, _++_}
 use Rattle.parts.specs.declared.Head.{Head}
 use Rattle.parts.specs.declared.Answer.{Answer}
-use Rattle.promises.specs.Calls.{Call, step, noIdentity, poweredUp}
+use Rattle.promises.specs.States.{started}
+use Rattle.promises.specs.Calls.{Call, step, noIdentity}
 use Rattle.promises.specs.Valid.{Valid}
 use Rattle.promises.specs.Histories.{after, PowerUp, powered, Reachable}
 use Rattle.promises.proofs.Valid.{valid-step, valid-started}
@@ -23,17 +24,19 @@ pub valid-after : (h : Head) (cs : List Call) → Valid h → Valid (after h cs)
 valid-after h [] v = v
 valid-after h (c ∷ cs) v = valid-after (step h c) cs (valid-step h c v)
 
-pub powered-valid : (n : ℕ) (i : Identity) → ValidIdentity i → Valid (poweredUp n i .head)
-powered-valid n i v =
+-- what holds of every head as power-up leaves it
+pub at-power-up {ℓ} : (P : Head → Type ℓ) → ((n : ℕ) (i : Identity) → P (started n i)) → (p : PowerUp) → P (powered p)
+at-power-up P s p = by (λ (a : Answer). P (a .head)) (within 1 127 (p .number)) (λ _. s (p .number) (p .identity)) (λ _. s 1 noIdentity)
+
+pub valid-powered : (p : PowerUp) → Valid (powered p)
+valid-powered p =
+    let n = p .number in
     by (λ (a : Answer). Valid (a .head)) _
-    (λ e. let bounds = both (leb 1 n) (leb n 127) e in valid-started n i (leb-true _ _ (bounds .0)) (leb-true _ _ (bounds .1)) v)
+    (λ e. let bounds = both (leb 1 n) (leb n 127) e in valid-started n (p .identity) (leb-true _ _ (bounds .0)) (leb-true _ _ (bounds .1)) (p .fits))
     (λ _. valid-started 1 noIdentity (omega arith) (omega arith) (record { vendor = least; product = least; revision = least; serial = least }))
   where
     least : 0 ≤ 0xFFFFFFFF
     least = omega arith
-
-pub valid-powered : (p : PowerUp) → Valid (powered p)
-valid-powered p = powered-valid (p .number) (p .identity) (p .fits)
 
 pub valid-reachable : (h : Head) → Reachable h → Valid h
 valid-reachable h r = rw (r .so) (valid-after (powered (r .start)) (r .calls) (valid-powered (r .start)))

@@ -8,10 +8,8 @@ use mathlib.Core.List.{List, [], _∷_}
 use borrow.Author.Tests.{ne-eqb}
 use Rattle.cases.proofs.Cases.{by, test, true-false}
 use Rattle.can.specs.declared.Received.{Received}
-use Rattle.cases.specs.Tests.{within}
 use Rattle.parts.specs.declared.Core.{Core}
 use Rattle.parts.specs.declared.Head.{Head}
-use Rattle.parts.specs.declared.Answer.{Answer}
 use Rattle.parts.specs.declared.Sensor.the-variants.{Missing, Raw}
 use Rattle.promises.specs.States.{isInitialising, node, communication}
 use Rattle.promises.specs.WaitingLine.{Kind, emergency, sdoReply, heartbeat, tpdo, may}
@@ -23,14 +21,13 @@ use Rattle.promises.specs.Meant.{not-booted}
 use Rattle.promises.specs.Histories.{after, PowerUp, powered}
 use Rattle.promises.specs.Gap.{nodeOf, among, isEmergency, isCommand, resets, leftBy, left}
 use Rattle.promises.proofs.Valid.{valid-step}
-use Rattle.promises.proofs.Slots.{sends-first}
 use Rattle.promises.proofs.Answers.{AtSlot, booting, idling, sending, at-slot}
 use Rattle.promises.proofs.Meant.{core-step, inhibit-after, resets as resets-to}
 use Rattle.promises.proofs.Causes.{Cause, cause}
 use Rattle.promises.proofs.Unmeant.{not-meant}
-use Rattle.promises.proofs.Histories.{valid-powered}
-use Rattle.promises.proofs.Known.{framed, frames-by, sent-waits, known, known-boot-up}
-use Rattle.promises.proofs.Announced.{node-step, node-powered}
+use Rattle.promises.proofs.Histories.{at-power-up, valid-powered}
+use Rattle.promises.proofs.Known.{framed, frames-by, known, known-boot-up}
+use Rattle.promises.proofs.SameNode.{node-step, node-powered}
 use Rattle.promises.proofs.Spoken.{resets-so, resets-heard}
 
 module _ (n : ℕ) (h : Head) (q : node (h .core) ≡ n) (v : Valid h) where
@@ -73,7 +70,7 @@ module _ (n : ℕ) (h : Head) (q : node (h .core) ≡ n) (v : Valid h) where
   left-slot : (a : Act) → AtSlot h a → Left a
   left-slot boot (booting i) = rw (known-boot-up n c q (v .device) .emergency) (sym (none-runs i))
   left-slot idle (idling i e) = refl
-  left-slot (send k) (sending j i e) = left-sent k (v .only k (sent-waits h v slot k (sends-first h v i k e)))
+  left-slot (send k) (sending j i e w) = left-sent k (v .only k w)
 
   left-step : (x : Call) → step h x .core .timers .inhibit ≡ leftBy n h x (c .timers .inhibit)
   left-step (receive f) =
@@ -88,12 +85,12 @@ module _ (n : ℕ) (h : Head) (q : node (h .core) ≡ n) (v : Valid h) where
 left-after : (n : ℕ) (cs : List Call) (h : Head) (t : ℕ) → node (h .core) ≡ n → Valid h → h .core .timers .inhibit ≡ t → after h cs .core .timers .inhibit ≡ left n h cs t
 left-after n [] h t q v e = e
 left-after n (x ∷ cs) h t q v e =
-    left-after n cs (step h x) (leftBy n h x t) (node-step h x ∙ q) (valid-step h x v) (left-step n h q v x ∙ ap (leftBy n h x) e)
+    left-after n cs (step h x) (leftBy n h x t) (node-step h v x ∙ q) (valid-step h x v) (left-step n h q v x ∙ ap (leftBy n h x) e)
 
 pub inhibit-left : (p : PowerUp) (cs : List Call) → after (powered p) cs .core .timers .inhibit ≡ left (nodeOf p) (powered p) cs 0
 inhibit-left p cs =
     left-after (nodeOf p) cs (powered p) 0 (node-powered p) (valid-powered p)
-    (by (λ (a : Answer). a .head .core .timers .inhibit ≡ 0) (within 1 127 (p .number)) (λ _. refl) (λ _. refl))
+    (at-power-up (λ h. h .core .timers .inhibit ≡ 0) (λ _ _. refl) p)
 
 pub rounded-up : (v : ℕ) → 0 < v → (t : ℕ) × (inhibitTicks v ≡ t + 1) × (v ≤ t * 10) × (t * 10 < v + 10)
 rounded-up v some = ((v + 9) / 10, rw (ne-eqb v 0 (λ e. omega arith)), omega arith, omega arith)

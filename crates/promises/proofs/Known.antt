@@ -2,32 +2,29 @@
 use Prim.Native.Nat.{ℕ, _+_, _/_, _%_, _≤_}
 use native.Mathlib.Omega.{arith}
 use lib.Dec.{eqb, leb, ltb}
-use mathlib.Core.Path.{sym, _≡_, refl, _∙_}
+use mathlib.Core.Path.{sym, _≡_, refl}
 use mathlib.Core.Bool.{Bool, true, false, not, _||_, cond, and-false}
 use mathlib.Core.List.{List, [], _∷_}
 use mathlib.Core.Option.{Option, none, some}
-use borrow.Author.Tests.{not-true, lt-leb, leb-true, eqb-false, eq-eqb, ne-eqb}
+use borrow.Author.Tests.{not-true, lt-leb, leb-true, eq-eqb, ne-eqb}
 use Rattle.cases.proofs.Cases.{by, both}
 use Rattle.can.specs.declared.Frame.{Frame}
 use Rattle.can.specs.declared.Received.{Received}
 use Rattle.cases.specs.Tests.{within}
 use Rattle.dictionary.specs.Accepted.{on}
 use Rattle.dictionary.specs.Valid.{ValidPdo, ValidDevice}
-use Rattle.waiting.specs.Line.{places, has, first, Kinds}
-use Rattle.waiting.specs.Places.{waiting}
-use Rattle.waiting.proofs.Laws.{laws}
 use Rattle.parts.specs.declared.Core.{Core}
 use Rattle.parts.specs.declared.Head.{Head}
 use Rattle.parts.specs.declared.Sensor.the-variants.{Missing, Raw}
 use Rattle.promises.specs.States.{isInitialising, node, communication, pdo, Which, one, two}
-use Rattle.promises.specs.WaitingLine.{Kind, emergency, sdoReply, heartbeat, tpdo, number, kindOf, may, bootUpFrame, frameOf}
+use Rattle.promises.specs.WaitingLine.{Kind, emergency, sdoReply, heartbeat, tpdo, may, bootUpFrame, frameOf}
 use Rattle.promises.specs.Acts.{Act, nothing, enter, reset, boot, idle, send, take, lose, time, sync, serve, frameBy}
 use Rattle.promises.specs.Calls.{Call, receive, tick, sample, slot, meant, isFrame, frameIn}
 use Rattle.promises.specs.Valid.{waits, Valid}
 use Rattle.promises.specs.Histories.{frames}
 use Rattle.promises.specs.Gap.{alerts, showsPosition, Known, isBootUp}
-use Rattle.promises.proofs.Slots.{number-is}
 use Rattle.promises.proofs.Causes.{Cause, cause}
+use Rattle.promises.proofs.Answers.{AtSlot, booting, idling, sending, at-slot}
 use Rattle.promises.proofs.Conditions.{beats, shows}
 
 -- the frames that an act sends
@@ -60,10 +57,6 @@ frames-by h v (sample (Raw r)) = by (λ a. [] ≡ framed (frameBy (h .core) a)) 
 frames-by h v slot = answered (frameBy (h .core) (meant h slot))
 
 -- What is sent waits, and so it may.
-first-kind : (ws : List ℕ) → Kinds places ws → (first ws ≡ 0 → ⊥) → has (number (kindOf (first ws))) ws ≡ true
-first-kind [] h n = absurd (n refl)
-first-kind (x ∷ xs) h n = rw (number-is x (h .0) (h .1), eq-eqb x x refl)
-
 unsendable : (h : Head) → Valid h → (x : Call) (k : Kind) → frames h x ≡ [] → meant h x ≡ send k → ⊥
 unsendable h v x k s e =
     let f : framed (frameBy (h .core) (meant h x)) ≡ frameOf (h .core) k ∷ [] = rw e in
@@ -74,15 +67,12 @@ pub sent-waits : (h : Head) → Valid h → (x : Call) (k : Kind) → meant h x 
 sent-waits h v (receive f) k e = absurd (unsendable h v (receive f) k refl e)
 sent-waits h v tick k e = absurd (unsendable h v tick k refl e)
 sent-waits h v (sample s) k e = absurd (unsendable h v (sample s) k refl e)
-sent-waits h v slot k e = by (λ a. a ≡ send k → waits h k ≡ true) (isInitialising (h .core))
-    (λ _ q. let z : _≡_ {A = ℕ} 0 1 = cc in absurd (omega arith))
-    (λ _. by (λ a. a ≡ send k → waits h k ≡ true) (eqb (first (h .line)) 0)
-    (λ _ q. let z : _≡_ {A = ℕ} 0 1 = cc in absurd (omega arith))
-    (λ n q.
-    let same : kindOf (first (h .line)) ≡ k = cc in
-    let of = laws places .first-of (v .line) in
-    rw (← same, of) (first-kind (waiting (h .line)) (v .line .kinds) (λ z. eqb-false _ _ n (of ∙ z)))))
-    e
+sent-waits h v slot k e = by-act (meant h slot) (at-slot h v) e
+  where
+    by-act : (a : Act) → AtSlot h a → a ≡ send k → waits h k ≡ true
+    by-act boot (booting i) q = let z : _≡_ {A = ℕ} 0 1 = cc in absurd (omega arith)
+    by-act idle (idling i n) q = let z : _≡_ {A = ℕ} 0 1 = cc in absurd (omega arith)
+    by-act (send j) (sending _ i f w) q = let same : j ≡ k = cc in rw (← same) w
 
 -- A PDO that is on has its identifier in 181h..57Fh.
 module _ (c : Core) (v : ValidDevice (c .device)) where
@@ -134,6 +124,15 @@ module _ (n : ℕ) (c : Core) (q : node c ≡ n) (v : ValidDevice (c .device)) w
   known sdoReply m = above n (frameOf c sdoReply) few (omega arith) (rw (ne-eqb (0x580 + node c) (0x700 + n) (λ e. omega arith)))
   known heartbeat m = above n (frameOf c heartbeat) few (omega arith) (rw (not-true (isInitialising c) (beats c m .0)) (simp and-false))
   known (tpdo w) m = between n (frameOf c (tpdo w)) (omega (arith, v .node-low)) few (inside c v w m)
+
+  -- of these only a reply's is 580h+N
+  pub only-reply : (k : Kind) → may c k ≡ true → frameOf c k .identifier ≡ 0x580 + node c → k ≡ sdoReply
+  only-reply emergency m e = absurd (omega arith)
+  only-reply sdoReply m e = refl
+  only-reply heartbeat m e = absurd (omega arith)
+  only-reply (tpdo w) m e =
+      let i = pdo (communication c) w .identifier in
+      absurd (omega (arith, leb-true i 0x57F (both (leb 0x181 i) (leb i 0x57F) (inside c v w m) .1), e))
 
   pub known-boot-up : Known n (bootUpFrame c) true false false
   known-boot-up = above n (bootUpFrame c) few (omega arith) (rw (q, eq-eqb (0x700 + n) (0x700 + n) refl))

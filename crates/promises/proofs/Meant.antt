@@ -1,5 +1,4 @@
 -- What a call that means something does.
-use native.Mathlib.Omega.{arith}
 use lib.Dec.{eqb, ltb, leb}
 use mathlib.Core.Path.{_≡_, refl, sym, ap, _∙_}
 use mathlib.Core.Bool.{Bool, true, false, not, _&&_, Bool·beq, and-false}
@@ -9,9 +8,8 @@ use Rattle.can.specs.declared.Received.{Received}
 use Rattle.sdo.specs.declared.reply.Effect.{Effect}
 use Rattle.sdo.specs.declared.reply.Effect.the-variants.{Nothing, Reply, Write}
 use Rattle.waiting.specs.Line as line
-use Rattle.waiting.specs.Line.{places, has, first}
+use Rattle.waiting.specs.Line.{has, first}
 use Rattle.waiting.specs.Places.{waiting}
-use Rattle.waiting.proofs.Laws.{laws}
 use Rattle.parts.specs.declared.Core.{Core}
 use Rattle.parts.specs.declared.Head.{Head}
 use Rattle.parts.specs.declared.Sensor.the-variants.{Missing, Raw}
@@ -23,7 +21,7 @@ use Rattle.promises.specs.Valid.{waits, Valid}
 use Rattle.promises.specs.Meant.{Commands}
 use Rattle.promises.specs.Resets.{Restarted}
 use Rattle.promises.proofs.Hearing.{heard-by}
-use Rattle.promises.proofs.Waits.{waits-act}
+use Rattle.promises.proofs.Waits.{waits-act, reply-waiting}
 use Rattle.promises.proofs.Slots.{sends-first}
 
 -- the core after a call is what its act makes of it
@@ -77,7 +75,7 @@ module _ (h : Head) (v : Valid h) (w : waits h sdoReply ≡ true) where
       (λ _. refl))
     where
       unserved : not (has line.sdoReply (h .line)) ≡ false
-      unserved = rw (laws places .waits line.sdoReply (omega arith) (v .line), w)
+      unserved = rw (reply-waiting h v, w)
   reply-stays tick = by (Same (h .core)) (isInitialising (h .core)) (λ _. refl) (λ _. refl)
   reply-stays (sample Missing) = refl
   reply-stays (sample (Raw r)) = by (Same (h .core)) (ltb 1048575 r) (λ _. refl) (λ _. refl)

@@ -2,11 +2,9 @@
 use mathlib.Core.Path.{_≡_, refl, ap, _∙_}
 use mathlib.Core.Logic.{_⊎_, inl, inr}
 use lib.Dec.{ltb}
-use Rattle.cases.specs.Tests.{within}
 use Rattle.cases.proofs.Cases.{by}
 use Rattle.can.specs.declared.Received.{Received}
 use Rattle.parts.specs.declared.Nmt.{Nmt}
-use Rattle.parts.specs.declared.Answer.{Answer}
 use Rattle.parts.specs.declared.Head.{Head}
 use Rattle.parts.specs.declared.Sensor.the-variants.{Missing, Raw}
 use Rattle.promises.specs.States.{initialising, isInitialising}
@@ -14,14 +12,13 @@ use Rattle.promises.specs.WaitingLine.{Kind, emergency, sdoReply, heartb
 use Rattle.promises.specs.Acts.{Act, nothing, enter, reset, boot, idle, send, take, lose, time, sync, serve, acted}
 use Rattle.promises.specs.Calls.{Call, receive, tick, sample, slot, meant, step}
 use Rattle.promises.specs.Valid.{Valid}
-use Rattle.promises.specs.Histories.{PowerUp, powered}
 use Rattle.promises.specs.NetworkStates.{Enters, by-command, by-reset, by-boot-up, NetworkStates}
 use Rattle.promises.proofs.Nothing.{step-nothing}
 use Rattle.promises.proofs.Slots.{boots}
 use Rattle.promises.proofs.Answers.{AtSlot, booting, idling, sending, at-slot}
 use Rattle.promises.proofs.Meant.{core-step, commands, enters}
 use Rattle.promises.proofs.Causes.{Cause, cause}
-use Rattle.promises.proofs.Histories.{valid-reachable}
+use Rattle.promises.proofs.Histories.{at-power-up, valid-reachable}
 
 module _ (h : Head) (v : Valid h) where
   abbrev After : Act → Nmt
@@ -53,7 +50,7 @@ module _ (h : Head) (v : Valid h) where
   by-slot : (a : Act) → AtSlot h a → Enters h slot (After a) ⊎ (After a ≡ h .core .nmt)
   by-slot boot (booting i) = inl (by-boot-up i)
   by-slot idle (idling i e) = inr refl
-  by-slot (send k) (sending j i e) = inr (sent k)
+  by-slot (send k) (sending j i e w) = inr (sent k)
 
   only-so : (c : Call) → Enters h c (step h c .core .nmt) ⊎ (step h c .core .nmt ≡ h .core .nmt)
   only-so (receive f) = rw (core-step h (receive f)) (by-frame f (meant h (receive f)) (cause h f v))
@@ -67,13 +64,10 @@ module _ (h : Head) (v : Valid h) where
   entered (receive f) s (by-reset x) = ap (λ y. y .nmt) (core-step h (receive f) ∙ ap (acted (h .core)) (commands h f x))
   entered slot s (by-boot-up i) = ap (λ x. x .nmt) (core-step h slot ∙ ap (acted (h .core)) (boots h i))
 
-started : (p : PowerUp) → powered p .core .nmt ≡ initialising
-started p = by (λ (a : Answer). a .head .core .nmt ≡ initialising) (within 1 127 (p .number)) (λ _. refl) (λ _. refl)
-
 pub network-states : NetworkStates
 network-states =
     record {
-      starts = started;
+      starts = at-power-up (λ h. h .core .nmt ≡ initialising) (λ _ _. refl);
       enters = λ h r. entered h (valid-reachable h r);
       only-so = λ h r. only-so h (valid-reachable h r);
       timers-stand = λ h i. step-nothing h tick refl (rw i);

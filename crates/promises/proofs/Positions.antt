@@ -1,66 +1,54 @@
 -- The position is 01's formula, an accepted preset makes it read the preset, and a position frame carries what 6004h reads: `positioned`, of specs/Readings.antt.
-use Prim.Native.Nat.{ℕ, _<_, _≤_}
+use Prim.Native.Nat.{ℕ, _<_}
 use native.Mathlib.Omega.{arith}
-use lib.Dec.{eqb, leb}
+use lib.Dec.{eqb}
 use mathlib.Core.Path.{_≡_, refl, sym, ap, _∙_}
-use mathlib.Core.Bool.{Bool, true, false, not, _&&_, _||_, cond}
+use mathlib.Core.Bool.{Bool, true, false, not, _||_, cond}
 use mathlib.Core.List.{List, [], _∷_}
 use mathlib.Core.Option.{Option, some}
-use borrow.Author.Tests.{leb-true, not-false}
-use Rattle.cases.proofs.Cases.{test, both, neither}
-use Rattle.can.specs.declared.Frame.{Frame}
+use Rattle.cases.proofs.Cases.{test, neither, true-false}
 use Rattle.can.specs.declared.Received.{Received}
 use Rattle.can.proofs.Number.{numbers}
 use Rattle.position.specs.declared.Profile.{Profile}
 use Rattle.position.specs.Position.{position}
-use Rattle.position.specs.Laws.{Presets}
 use Rattle.position.proofs.Laws.{laws as position-laws}
 use Rattle.entries.specs.declared.Device.{Device}
-use Rattle.entries.specs.Table.{missing, rowAt}
 use Rattle.dictionary.specs.declared.read.Shown.{Shown}
 use Rattle.dictionary.specs.declared.read.Shown.the-variants.{Blank, Number}
 use Rattle.cases.specs.Tests.{within}
-use Rattle.dictionary.specs.Accepted.{on, barred}
 use Rattle.dictionary.specs.Writes.{rescales, written}
-use Rattle.dictionary.proofs.Accepted.{taken}
-use Rattle.dictionary.proofs.Laws.{laws as dictionary-laws}
-use Rattle.sdo.specs.Reply.{confirmed, carriedOut}
+use Rattle.sdo.specs.Reply.{carriedOut}
 use Rattle.sdo.specs.Service.{Due, none, value, confirmation, abort, answer}
-use Rattle.sdo.specs.Laws.{Confirmed}
-use Rattle.sdo.proofs.Laws.{laws as sdo-laws}
 use Rattle.parts.specs.declared.Core.{Core}
 use Rattle.parts.specs.declared.Head.{Head}
 use Rattle.parts.specs.declared.Sensor.the-variants.{Missing, Raw}
-use Rattle.promises.specs.States.{operational, code, isIn, isInitialising, communication, good, pdo, ofNode, ofCommunication}
+use Rattle.promises.specs.States.{operational, isIn, node, ofNode, ofCommunication}
 use Rattle.promises.specs.WaitingLine.{Kind, emergency, sdoReply, heartbeat, tpdo, frameOf}
-use Rattle.promises.specs.Acts.{serve, acted}
-use Rattle.promises.specs.Calls.{Call, receive, served, meant, step, received, slotted}
+use Rattle.promises.specs.Acts.{Act, boot, idle, send, frameBy}
+use Rattle.promises.specs.Calls.{Call, receive, slot, meant, step, isFrame, frameIn, received, slotted}
 use Rattle.promises.specs.Valid.{waits, Valid}
 use Rattle.promises.specs.Meant.{dueTo, Writes}
 use Rattle.promises.specs.Histories.{after, Reachable}
+use Rattle.promises.specs.Gap.{isPosition, showsPosition}
+use Rattle.promises.specs.Effects.{effects, anew}
 use Rattle.promises.specs.Readings.{readsIn, profileOf, repositions, Moves, Unmoved, samples, writes, resets, Carries, Positioned}
 use Rattle.promises.proofs.Valid.{valid-step}
-use Rattle.promises.proofs.Slots.{boots, sends-first}
-use Rattle.promises.proofs.Slots as slots
-use Rattle.promises.proofs.Meant.{core-step}
-use Rattle.promises.proofs.Causes.{requests}
+use Rattle.promises.proofs.Causes.{writes as writes-so}
+use Rattle.promises.proofs.Answers.{AtSlot, booting, idling, sending, at-slot}
+use Rattle.promises.proofs.Conditions.{shows}
 use Rattle.promises.proofs.Altered.{Altered, heard, timed, sent, refused, took, lost, restarted, served as is-served, altered}
 use Rattle.promises.proofs.Histories.{valid-reachable}
-use Rattle.promises.proofs.Identifiers.{which}
-use Rattle.promises.proofs.Readings.{position-shown}
+use Rattle.promises.proofs.Known.{known, known-boot-up}
+use Rattle.promises.proofs.Readings.{shownAs, position-shown}
+use Rattle.promises.proofs.Effects.{served-rightly}
 
 -- what 6004h reads of a device
 abbrev showing : Device → Option Shown
-showing d = some (cond (not (d .reading .good)) Blank (Number (position (d .settings .profile) (d .reading .raw))))
+showing d = some (shownAs (d .settings .profile) (d .reading))
 
 -- while it is good
 shows-good : (d : Device) → d .reading .good ≡ true → showing d ≡ some (Number (position (d .settings .profile) (d .reading .raw)))
 shows-good d e = ap (λ (g : Bool). some (cond (not g) Blank (Number (position (d .settings .profile) (d .reading .raw))))) e
-
--- an accepted preset
-preset-shown : (d : Device) (v : ℕ) → d .reading .good ≡ true → Presets (d .settings .profile) (d .reading .raw) v → showing (written d 0x6003_00 v) ≡ some (Number v)
-unfolding written
-preset-shown d v e p = shows-good (written d 0x6003_00 v) e ∙ ap (λ (n : ℕ). some (Number n)) (p .reads)
 
 -- no other write, but those that rescale, alters the profile
 profile-kept : (d : Device) (k v : ℕ) → repositions k ≡ false → written d k v .settings .profile ≡ d .settings .profile
@@ -74,7 +62,7 @@ profile-kept d k v e =
 showing-kept : (d : Device) (k v : ℕ) → repositions k ≡ false → showing (written d k v) ≡ showing d
 unfolding written
 showing-kept d k v e =
-    ap (λ (p : Profile). some (cond (not (d .reading .good)) Blank (Number (position p (d .reading .raw))))) (profile-kept d k v e)
+    ap (λ (p : Profile). some (shownAs p (d .reading))) (profile-kept d k v e)
 
 showing-due : (d : Device) (f : List ℕ) (y : Due) → ((k v : ℕ) → y ≡ confirmation k v → repositions k ≡ true → ⊥) → showing (carriedOut d (answer f y .effect)) ≡ showing d
 showing-due d f none n = refl
@@ -85,20 +73,7 @@ showing-due d f (abort c) n = refl
 module _ (h : Head) (v : Valid h) where
   -- a write that is accepted is carried out
   pub written-by : {f : Received} {k x : ℕ} → Writes h f k x → step h (receive f) .core .device ≡ written (h .core .device) k x
-  written-by {f} {k} {x} w =
-      let m : meant h (receive f) ≡ serve (confirmed (f .bytes) k x) = requests h f v (w .requests) ∙ ap (λ d. served (answer (f .bytes) d)) (w .accepted) in
-      ap (λ (c : Core). c .device) (core-step h (receive f) ∙ ap (acted (h .core)) m)
-
-  presets : (f : Received) (x : ℕ) → Writes h f 0x6003_00 x → readsIn (received h f .head) 0x6004 0 ≡ some (Number x)
-  presets f x w =
-      let d = h .core .device in
-      let o = isIn operational (h .core) in
-      let c : Confirmed d (f .bytes) _ 0x6003_00 x = rw (w .accepted) at (sdo-laws d o (f .bytes) .told) in
-      let free : barred d 0x6003_00 x ≡ false = ap (λ (k : ℕ). barred d k x) (c .key) ∙ taken d (rowAt (c .place)) x (c .takes .unrefused) .1 in
-      let present : missing d ≡ false = neither (missing d) false (neither (missing d || false) false free .0) .0 in
-      let below : x < d .settings .profile .range = dictionary-laws .written-fits d (c .place) x (c .takes) (sym (c .key)) in
-      position-shown (step h (receive f) .core .device) _ ∙ ap showing (written-by w)
-      ∙ preset-shown d x (not-false _ present) (position-laws .presets (d .settings .profile) (d .reading .raw) x (v .device .settings .profile) below)
+  written-by {f} w = ap (λ (c : Core). c .device) (writes-so h f v w)
 
   kept : (c : Call) (d : Device) → (Moves h c → ⊥) → Altered h c d → showing d ≡ showing (h .core .device)
   kept _ _ n (heard f) = refl
@@ -117,39 +92,40 @@ module _ (h : Head) (v : Valid h) where
       position-shown (step h c .core .device) _ ∙ kept c (step h c .core .device) n (altered h v c)
       ∙ sym (position-shown (h .core .device) _)
 
-  -- a frame in 181h..57Fh is a position frame
-  module _ (low : 0x181 ≤ slotted h .frame .identifier) (high : slotted h .frame .identifier ≤ 0x57F) where
-    carries-as : (k : Kind) → waits h k ≡ true → slotted h .frame ≡ frameOf (h .core) k → Carries h (slotted h .frame)
-    carries-as emergency w e = absurd (omega (arith, low, v .device .node-high, ap (λ (f : Frame). f .identifier) e))
-    carries-as sdoReply w e = absurd (omega (arith, high, v .device .node-low, ap (λ (f : Frame). f .identifier) e))
-    carries-as heartbeat w e = absurd (omega (arith, high, ap (λ (f : Frame). f .identifier) e))
-    carries-as (tpdo which) w e =
-        let d = h .core .device in
-        let p = d .settings .profile in
-        let i = pdo (communication (h .core)) which .identifier in
-        let fine = both (eqb (h .core .nmt .code) (code operational) && on i) (good (h .core)) (v .only (tpdo which) w) .1 in
-        let below : position p (d .reading .raw) < 0x100000000 =
-        omega (arith, position-laws .positions p (d .reading .raw) (v .device .settings .profile) .below, v .device .settings .profile .high) in
-        record {
-          which = which;
-          identifier = ap (λ (f : Frame). f .identifier) e;
-          length = ap (λ (f : Frame). f .length) e;
-          position = position p (d .reading .raw);
-          reads-it = position-shown d _ ∙ shows-good d fine;
-          its-bytes = ap (λ (f : Frame). f .bytes) e;
-          whole = numbers .back 4 (position p (d .reading .raw)) below;
-        }
+  -- a position frame is that of a PDO
+  carries-as : (k : Kind) → waits h k ≡ true → showsPosition k ≡ true → Carries h (frameOf (h .core) k)
+  carries-as emergency w e = true-false (sym e)
+  carries-as sdoReply w e = true-false (sym e)
+  carries-as heartbeat w e = true-false (sym e)
+  carries-as (tpdo which) w e =
+      let d = h .core .device in
+      let p = d .settings .profile in
+      let below : position p (d .reading .raw) < 0x100000000 =
+      omega (arith, position-laws .positions p (d .reading .raw) (v .device .settings .profile) .below, v .device .settings .profile .high) in
+      record {
+        which = which;
+        identifier = refl;
+        length = refl;
+        position = position p (d .reading .raw);
+        reads-it = position-shown d _ ∙ shows-good d (shows (h .core) which (v .only (tpdo which) w) .is-good);
+        its-bytes = refl;
+        whole = numbers .back 4 (position p (d .reading .raw)) below;
+      }
 
   carries : slotted h .waited ≡ true → within 0x181 0x57F (slotted h .frame .identifier) ≡ true → Carries h (slotted h .frame)
-  carries w b =
-      let i = slotted h .frame .identifier in
-      let u = both (leb 0x181 i) (leb i 0x57F) b in
-      let high : i ≤ 0x57F = leb-true _ _ (u .1) in
-      test (isInitialising (h .core))
-      (λ s. absurd (omega (arith, high, ap (λ (f : Frame). f .identifier) (slots.answers h (boots h s) .1))))
-      (λ s.
-      let k = which h v s w in
-      carries-as (leb-true _ _ (u .0)) high (k .0) (k .2) (slots.answers h (sends-first h v s (k .0) (k .1)) .1))
+  carries = by-act (meant h slot) (at-slot h v)
+    where
+      by-act : (a : Act) → AtSlot h a → let x = frameBy (h .core) a in isFrame x ≡ true → isPosition (frameIn x) ≡ true → Carries h (frameIn x)
+      by-act boot (booting i) f b = true-false (sym b ∙ known-boot-up (node (h .core)) (h .core) refl (v .device) .position)
+      by-act idle (idling i e) f b = true-false (sym f)
+      by-act (send k) (sending _ i e w) f b = carries-as k w (sym (known (node (h .core)) (h .core) refl (v .device) k (v .only k w) .position) ∙ b)
+
+-- an accepted preset
+presets : (h : Head) → Reachable h → (f : Received) (x : ℕ) → Writes h f 0x6003_00 x → readsIn (received h f .head) 0x6004 0 ≡ some (Number x)
+presets h r f x w =
+    let d = h .core .device in
+    let o = isIn operational (h .core) in
+    served-rightly h r f (w .requests) .accepted 0x6003_00 x (w .accepted) .entries 0x6004 0 ∙ ap (anew (effects d o 0x6003_00 x) 0x6004_00) (position-shown d o)
 
 stays : (cs : List Call) (h : Head) → Valid h → Unmoved h cs → readsIn (after h cs) 0x6004 0 ≡ readsIn h 0x6004 0
 stays [] h v u = refl
@@ -162,7 +138,7 @@ positioned h r =
     record {
       formula = λ n. position-laws .positions (profileOf h) n p;
       mirrors = λ n. position-laws .mirrors (profileOf h) n p;
-      presets = presets h v;
+      presets = presets h r;
       stays = λ cs. stays cs h v;
       carries = carries h v;
     }

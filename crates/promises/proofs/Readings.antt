@@ -1,12 +1,13 @@
 -- The reading is the last sample taken, and what 6004h, 1001h and 6503h tell of it: `tells`, of specs/Readings.antt.
 use Prim.Native.Nat.{ℕ}
 use native.Mathlib.Omega.{arith}
-use mathlib.Core.Path.{_≡_, refl, sym, ap, _∙_}
+use lib.Dec.{ltb}
+use mathlib.Core.Path.{_≡_, refl, sym, ap, ap₂, _∙_}
 use mathlib.Core.Logic.{_↔_}
-use mathlib.Core.Bool.{Bool, true, not, cond}
+use mathlib.Core.Bool.{Bool, true, false, not, cond}
 use mathlib.Core.List.{List, [], _∷_}
 use mathlib.Core.Option.{some}
-use borrow.Author.Tests.{eqb-true}
+use borrow.Author.Tests.{eqb-true, leb-false, ltb-false}
 use Rattle.cases.proofs.Cases.{by}
 use Rattle.position.specs.declared.Profile.{Profile}
 use Rattle.position.specs.Position.{position}
@@ -16,51 +17,46 @@ use Rattle.entries.specs.declared.table.Found.the-variants.{At}
 use Rattle.entries.specs.Table.{entries, table, lookup, rowAt, width}
 use Rattle.dictionary.specs.declared.read.Shown.{Shown}
 use Rattle.dictionary.specs.declared.read.Shown.the-variants.{Blank, Number}
-use Rattle.cases.specs.Tests.{within}
 use Rattle.dictionary.specs.Reads.{shownAt, reads}
-use Rattle.dictionary.specs.Writes.{written}
 use Rattle.dictionary.specs.Laws.{Shows}
 use Rattle.dictionary.proofs.Laws.{shows}
-use Rattle.sdo.specs.declared.reply.Effect.{Effect}
-use Rattle.sdo.specs.declared.reply.Effect.the-variants.{Nothing, Reply, Write}
 use Rattle.sdo.specs.Request.{top, indexOf, subOf, reading}
-use Rattle.sdo.specs.Reply.{carriedOut}
 use Rattle.sdo.specs.Service.{value, abort, isBlank, numberIn, due}
 use Rattle.parts.specs.declared.Head.{Head}
-use Rattle.parts.specs.declared.Answer.{Answer}
 use Rattle.parts.specs.declared.Sensor.{Sensor}
 use Rattle.parts.specs.declared.Sensor.the-variants.{Missing, Raw}
-use Rattle.promises.specs.States.{operational, isIn, missingReading}
-use Rattle.promises.specs.Calls.{Call, step}
+use Rattle.promises.specs.States.{operational, isIn, good, missingReading}
+use Rattle.promises.specs.Calls.{Call, receive, tick, sample, slot, step}
 use Rattle.promises.specs.Valid.{Valid}
 use Rattle.promises.specs.Histories.{after, PowerUp, powered}
 use Rattle.promises.specs.Service.{replyDue}
+use Rattle.promises.specs.Gap.{isGoodSample}
 use Rattle.promises.specs.Readings.{readsIn, profileOf, sampleBy, lastSample, readingOf, shownPosition, shownRegister, dueShown, Tells}
 use Rattle.promises.proofs.Valid.{valid-step}
-use Rattle.promises.proofs.Altered.{Altered, heard, timed, sent, refused, took, lost, restarted, served, altered}
-use Rattle.promises.proofs.Histories.{valid-powered}
+use Rattle.promises.proofs.Altered.{Altered, heard, timed, sent, refused, took, lost, restarted, served, carried, altered}
+use Rattle.promises.proofs.Histories.{at-power-up, valid-powered}
 
 -- what is due to a read
 shown-due : (w : ℕ) (s : Shown) → cond (isBlank s) (abort 0x08000024) (value w (numberIn s)) ≡ dueShown w s
 shown-due w Blank = refl
 shown-due w (Number n) = refl
 
+-- 6004h, of a reading
+abbrev pub shownAs : Profile → Reading → Shown
+shownAs p r = cond (not (r .good)) Blank (Number (position p (r .raw)))
+
 -- what the entries of a device read
 module _ (d : Device) (o : Bool) where
-  -- 6004h, of a reading
-  abbrev shownAs : Reading → Shown
-  shownAs r = cond (not (r .good)) Blank (Number (position (d .settings .profile) (r .raw)))
-
   -- it stands at place 35
   position-place : lookup 0x6004 0 ≡ At 35
   unfolding table entries lookup
   position-place = refl
 
-  position-there : (shownAt d o 35 ≡ shownAs (d .reading)) × (width (rowAt 35) ≡ 4)
+  position-there : (shownAt d o 35 ≡ shownAs (d .settings .profile) (d .reading)) × (width (rowAt 35) ≡ 4)
   unfolding table entries shownAt
   position-there = (refl, refl)
 
-  pub position-shown : reads d o 0x6004 0 ≡ some (shownAs (d .reading))
+  pub position-shown : reads d o 0x6004 0 ≡ some (shownAs (d .settings .profile) (d .reading))
   position-shown = shows d o 0x6004 0 position-place (position-there .0)
 
   registers-shown : let register = Number (cond (not (d .reading .good)) 1 0) in Shows d o 0x1001 0 register × Shows d o 0x6503 0 register
@@ -71,11 +67,11 @@ module _ (d : Device) (o : Bool) where
   unfolding due
   read-due f p r q = rw (q, eqb-true (top f) 2 r) (shown-due (width (rowAt p)) (shownAt d o p))
 
-  position-due : (f : List ℕ) → reading f ≡ true → indexOf f ≡ 0x6004 → subOf f ≡ 0 → due d o f ≡ dueShown 4 (shownAs (d .reading))
+  position-due : (f : List ℕ) → reading f ≡ true → indexOf f ≡ 0x6004 → subOf f ≡ 0 → due d o f ≡ dueShown 4 (shownAs (d .settings .profile) (d .reading))
   position-due f r i j = read-due f 35 r (rw (i, j) position-place) ∙ rw (position-there .1, position-there .0)
 
 -- by the sample whose reading it is
-by-sample : (p : Profile) (s : Sensor) → cond (not (readingOf s .good)) Blank (Number (position p (readingOf s .raw))) ≡ shownPosition p s
+by-sample : (p : Profile) (s : Sensor) → shownAs p (readingOf s) ≡ shownPosition p s
 by-sample p Missing = refl
 by-sample p (Raw r) = refl
 
@@ -87,13 +83,6 @@ blank-by : (p : Profile) (s : Sensor) → (some (shownPosition p s) ≡ some Bla
 blank-by p Missing = (λ _. refl, λ _. refl)
 blank-by p (Raw r) = (λ e. absurd (let z : _≡_ {A = ℕ} 0 1 = cc in omega arith), λ e. absurd (let z : _≡_ {A = ℕ} 0 1 = cc in omega arith))
 
--- no request alters the reading
-reading-carried : (d : Device) (e : Effect) → carriedOut d e .reading ≡ d .reading
-unfolding written
-reading-carried d Nothing = refl
-reading-carried d Reply = refl
-reading-carried d (Write k v) = refl
-
 reading-by : (h : Head) (s : Sensor) (c : Call) (d : Device) → h .core .device .reading ≡ readingOf s → Altered h c d → d .reading ≡ readingOf (sampleBy s c)
 reading-by h s _ _ e (heard f) = e
 reading-by h s _ _ e timed = e
@@ -102,7 +91,7 @@ reading-by h s _ _ e (refused r b) = e ∙ ap (λ (t : Bool). readingOf (cond t 
 reading-by h s _ _ e (took r b) = ap (λ (t : Bool). readingOf (cond t s (Raw r))) (sym b)
 reading-by h s _ _ e lost = refl
 reading-by h s _ _ e (restarted f r x) = e
-reading-by h s _ _ e (served f x) = reading-carried (h .core .device) (replyDue h f .effect) ∙ e
+reading-by h s _ _ e (served f x) = carried (h .core .device) (replyDue h f .effect) .1 ∙ e
 
 pub reading-step : (h : Head) → Valid h → (s : Sensor) (c : Call) → h .core .device .reading ≡ readingOf s → step h c .core .device .reading ≡ readingOf (sampleBy s c)
 reading-step h v s c e = reading-by h s c (step h c .core .device) e (altered h v c)
@@ -112,15 +101,29 @@ reading-after : (cs : List Call) (h : Head) (s : Sensor) → Valid h → h .core
 reading-after [] h s v e = e
 reading-after (c ∷ cs) h s v e = reading-after cs (step h c) (sampleBy s c) (valid-step h c v) (reading-step h v s c e)
 
+-- a missing reading stays missing until a good sample
+still-missing : (c : Call) → isGoodSample c ≡ false → readingOf (sampleBy Missing c) .good ≡ false
+still-missing (receive f) e = refl
+still-missing tick e = refl
+still-missing (sample Missing) e = refl
+still-missing (sample (Raw r)) e =
+    by (λ (s : Sensor). readingOf s .good ≡ false) (ltb 1048575 r) (λ _. refl) (λ t. absurd (omega (arith, leb-false r 1048575 e, ltb-false 1048575 r t)))
+still-missing slot e = refl
+
+pub stays-missing : (h : Head) → Valid h → (c : Call) → isGoodSample c ≡ false → good (h .core) ≡ false → good (step h c .core) ≡ false
+stays-missing h v c e g =
+    let missing : h .core .device .reading ≡ missingReading = ap₂ {C = Reading} (λ b r. record { good = b; raw = r }) g (v .device .raw-missing g) in
+    ap (λ (r : Reading). r .good) (reading-step h v Missing c missing) ∙ still-missing c e
+
 -- at power-up the reading is missing
 pub reading-powered : (p : PowerUp) → powered p .core .device .reading ≡ missingReading
-reading-powered p = by (λ (a : Answer). a .head .core .device .reading ≡ missingReading) (within 1 127 (p .number)) (λ _. refl) (λ _. refl)
+reading-powered = at-power-up (λ h. h .core .device .reading ≡ missingReading) (λ _ _. refl)
 
 tells-of : (h : Head) (s : Sensor) → h .core .device .reading ≡ readingOf s → Tells h s
 tells-of h s e =
     let d = h .core .device in
     let o = isIn operational (h .core) in
-    let shown : shownAs d o (d .reading) ≡ shownPosition (profileOf h) s = ap (shownAs d o) e ∙ by-sample (profileOf h) s in
+    let shown : shownAs (profileOf h) (d .reading) ≡ shownPosition (profileOf h) s = ap (shownAs (profileOf h)) e ∙ by-sample (profileOf h) s in
     let register : Number (cond (not (d .reading .good)) 1 0) ≡ shownRegister s = ap (λ (r : Reading). Number (cond (not (r .good)) 1 0)) e ∙ register-by s in
     let reads-it : readsIn h 0x6004 0 ≡ some (shownPosition (profileOf h) s) = position-shown d o ∙ ap some shown in
     let blank = blank-by (profileOf h) s in

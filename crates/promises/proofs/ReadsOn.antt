@@ -53,7 +53,7 @@ reads-on h x f k v w n cs a =
     let valid = valid-reachable h x in
     let now = received h f .head in
     let later = after now cs in
-    let t = told h f valid (w .requests) k v (w .accepted) in
+    let t = told h f (w .accepted) in
     let own = served-rightly h x f (w .requests) .accepted k v (w .accepted) .own in
     let alike = shown-alike (later .core .device) (now .core .device) (isIn operational (later .core)) (isIn operational (now .core)) in
     ap (readOf (later .core .device) (isIn operational (later .core))) (t .found)

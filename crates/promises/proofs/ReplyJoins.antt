@@ -2,7 +2,7 @@
 use Prim.Native.Nat.{ℕ}
 use lib.Dec.{eqb}
 use mathlib.Core.Path.{_≡_, refl, sym, ap, ap₂, _∙_}
-use mathlib.Core.Bool.{Bool, true, false, not, _&&_, _||_, Bool·beq, cond, Bool·not-not, and-true, and-false, and-not-self, or-true}
+use mathlib.Core.Bool.{Bool, true, false, not, _&&_, _||_, Bool·beq, cond, and-true, and-false, and-not-self, or-true}
 use mathlib.Core.List.{List, [], _∷_, _++_, append-assoc}
 use borrow.Author.Tests.{eqb-true, eqb-false, eq-eqb, ne-eqb}
 use Rattle.cases.proofs.Cases.{both, test}
@@ -21,14 +21,14 @@ use Rattle.sdo.specs.Reply.{confirmed}
 use Rattle.parts.specs.declared.Nmt.{Nmt}
 use Rattle.parts.specs.declared.Core.{Core}
 use Rattle.parts.specs.declared.Head.{Head}
-use Rattle.promises.specs.States.{initialisingCode, operational, code, live, isLive, communication, good, one, two}
-use Rattle.promises.specs.WaitingLine.{Kind, emergency, sdoReply, heartbeat, tpdo, number, kindOf, those, mayAlert, mayBeat, mayShow, may}
+use Rattle.promises.specs.States.{live, isLive, communication, good}
+use Rattle.promises.specs.WaitingLine.{Kind, emergency, sdoReply, number, kindOf, those, mayAlert, may}
 use Rattle.promises.specs.Acts.{serve, serving, requestMoments, goes, comes, act}
 use Rattle.promises.specs.Valid.{waits, Valid}
 use Rattle.promises.specs.Effects.{takes, brings}
 use Rattle.promises.proofs.Waits.{has-those, holds-act}
 use Rattle.promises.proofs.Valid.{emergency-exactly}
-use Rattle.promises.proofs.Restarts.{own-identifier}
+use Rattle.promises.proofs.Conditions.{ends}
 use Rattle.promises.proofs.Slots.{number-is}
 
 pub none-withdrawn : (ks : List ℕ) → withdraws [] ks ≡ []
@@ -44,7 +44,7 @@ first-withdrawn x xs (k ∷ ks) =
     (λ e. rw (ne-eqb x k (λ q. eqb-false k x e (sym q)), e) (first-withdrawn x (withdraw xs k) ks))
 
 -- Two lists withdraw the same from a line if they agree on the kinds that wait in it.
-pub withdrawn-alike : (ws ks ls : List ℕ) → Kinds places ws → ((k : Kind) → has (number k) ws ≡ true → has (number k) ks ≡ has (number k) ls) → withdraws ws ks ≡ withdraws ws ls
+withdrawn-alike : (ws ks ls : List ℕ) → Kinds places ws → ((k : Kind) → has (number k) ws ≡ true → has (number k) ks ≡ has (number k) ls) → withdraws ws ks ≡ withdraws ws ls
 withdrawn-alike [] ks ls h a = none-withdrawn ks ∙ sym (none-withdrawn ls)
 withdrawn-alike (x ∷ xs) ks ls h a =
     let its-number = number-is x (h .0) (h .1) in
@@ -56,10 +56,10 @@ withdrawn-alike (x ∷ xs) ks ls h a =
     ∙ sym (first-withdrawn x xs ls)
 
 -- The reply, and before it the emergency if it is to join: those who do not wait yet stand at the end.
-abbrev pub joining : Bool → List ℕ
+abbrev joining : Bool → List ℕ
 joining e = cond e (line.emergency ∷ line.sdoReply ∷ []) (line.sdoReply ∷ [])
 
-pub reply-joins : (e : Bool) (ws : List ℕ) → has line.sdoReply ws ≡ false → joins ws (joining e) ≡ ws ++ joining (e && not (has line.emergency ws))
+reply-joins : (e : Bool) (ws : List ℕ) → has line.sdoReply ws ≡ false → joins ws (joining e) ≡ ws ++ joining (e && not (has line.emergency ws))
 reply-joins false ws n = rw (join-is ws line.sdoReply, n)
 reply-joins true ws n =
     test (has line.emergency ws)
@@ -67,34 +67,9 @@ reply-joins true ws n =
     (λ w. rw (join-is ws line.emergency, w, join-is (ws ++ line.emergency ∷ []) line.sdoReply, has-append line.sdoReply ws (line.emergency ∷ []), n)
     (append-assoc ws (line.emergency ∷ []) (line.sdoReply ∷ [])))
 
--- A write of v to the setting of a condition ends it exactly if v does; t: it is that setting which is written.
-alert-ends : (t : Bool) (s : Nmt) (v held i : ℕ) (g a : Bool) → mayAlert s held i g a ≡ true → not (mayAlert s (cond t v held) i g a) ≡ (t && not (on v))
-alert-ends true s v held i g a m =
-    let differs = not (Bool·beq g a) in
-    let x = both (live s && on held && eqb i 0) differs m in
-    let y = both (live s && on held) (eqb i 0) (x .0) in
-    rw (both (live s) (on held) (y .0) .0, y .1, x .1) (simp and-true)
-alert-ends false s v held i g a m = ap not m
-
-beat-ends : (t : Bool) (s : Nmt) (v held : ℕ) → mayBeat s held ≡ true → not (mayBeat s (cond t v held)) ≡ (t && eqb v 0)
-beat-ends true s v held m = rw (both (not (eqb (s .code) initialisingCode)) (not (eqb held 0)) m .0) (Bool·not-not (eqb v 0))
-beat-ends false s v held m = ap not m
-
-show-ends : (t : Bool) (s : Nmt) (v held : ℕ) (g : Bool) → mayShow s held g ≡ true → not (mayShow s (cond t v held) g) ≡ (t && not (on v))
-show-ends true s v held g m =
-    let x = both (eqb (s .code) (code operational) && on held) g m in
-    rw (both (eqb (s .code) (code operational)) (on held) (x .0) .0, x .1) (simp and-true)
-show-ends false s v held g m = ap not m
-
-ends : (c : Core) (f : List ℕ) (k v : ℕ) (x : Kind) → may c x ≡ true → not (may (serving c (confirmed f k v)) x) ≡ takes k v x
-unfolding written
-ends c f k v emergency m = alert-ends (eqb k 0x1014_00) (c .nmt) v (communication c .emergency) (c .timers .inhibit) (good c) (c .announced) m
-ends c f k v sdoReply m = ap not m
-ends c f k v heartbeat m = beat-ends (eqb k 0x1017_00) (c .nmt) v (communication c .heartbeat) m
-ends c f k v (tpdo one) m =
-    let held = communication c .pdo1 .identifier in
-    ap (λ t. not (mayShow (c .nmt) (cond t v held) (good c))) (own-identifier k) ∙ show-ends (eqb k 0x1800_01) (c .nmt) v held (good c) m
-ends c f k v (tpdo two) m = show-ends (eqb k 0x1801_01) (c .nmt) v (communication c .pdo2 .identifier) (good c) m
+last-in : {all : List ℕ} (ws : List ℕ) (e : Bool) → all ≡ ws ++ joining e → (ahead : List ℕ) × (all ≡ ahead ++ line.sdoReply ∷ [])
+last-in ws true q = (ws ++ line.emergency ∷ [], q ∙ sym (append-assoc ws (line.emergency ∷ []) (line.sdoReply ∷ [])))
+last-in ws false q = (ws, q)
 
 -- m: the emergency may wait after the write; y: 1014h is written with bit 31 clear; w: it waited.
 newly : (m y w : Bool) → (m ≡ true → y ≡ true) → (m && not (not (not y) && w)) ≡ (not w && m)
@@ -128,6 +103,11 @@ module _ (h : Head) (valid : Valid h) (l : isLive (h .core) ≡ true) (free : wa
       ∙ ap (λ r. joins r (joining due)) out
       ∙ reply-joins due left gone
       ∙ ap (λ t. left ++ joining t) e
+
+  pub at-the-end : (s : Served) → (ahead : List ℕ) × (waiting (act false h (serve s) .line) ≡ ahead ++ line.sdoReply ∷ [])
+  at-the-end s =
+      let left = withdraws ws (goes c (serving c s)) in
+      last-in left (may (serving c s) emergency && not (has line.emergency left)) (served-line s refl refl)
 
   -- An aborted request and a read: no condition ends or begins.
   pub only-reply : (bytes : List ℕ) → waiting (act false h (serve (record { bytes = bytes; effect = Reply })) .line) ≡ ws ++ line.sdoReply ∷ []

@@ -3,8 +3,6 @@ use Prim.Native.Nat.{ℕ}
 use lib.Dec.{eqb}
 use mathlib.Core.Path.{_≡_, refl, ap, _∙_}
 use mathlib.Core.Bool.{Bool, true, false, not, _&&_, _||_, cond, not-and-self}
-use borrow.Author.Tests.{eqb-true}
-use Rattle.cases.proofs.Cases.{test}
 use Rattle.dictionary.specs.Accepted.{on}
 use Rattle.dictionary.specs.Writes.{ownKey, written}
 use Rattle.sdo.specs.declared.reply.Effect.the-variants.{Write}
@@ -12,10 +10,7 @@ use Rattle.parts.specs.declared.Core.{Core}
 use Rattle.promises.specs.States.{communication, one, two}
 use Rattle.promises.specs.Acts.{timersAfter}
 use Rattle.promises.specs.Effects.{Counted, beats, events, syncs, count, restarts}
-
--- 6200h is 1800-5, and no identifier
-pub own-identifier : (k : ℕ) → eqb (ownKey k) 0x1800_01 ≡ eqb k 0x1800_01
-own-identifier k = test (eqb k 0x6200_00) (λ e. rw (eqb-true k 0x6200_00 e)) (λ e. rw e)
+use Rattle.promises.proofs.Conditions.{own-identifier}
 
 -- a PDO goes on by a write of its identifier only
 switched : (t : Bool) (v held : ℕ) → (not (on held) && on (cond t v held)) ≡ (t && (not (on held) && on v))

@@ -1,51 +1,33 @@
 -- Each request that is served gets what is due: `serves`, of specs/Service.antt.
-use Prim.Native.Nat.{ℕ, _+_}
+use Prim.Native.Nat.{_+_}
 use lib.Dec.{eqb}
 use mathlib.Core.Path.{_≡_, refl, sym, ap, _∙_}
 use mathlib.Core.Logic.{_↔_}
-use mathlib.Core.Bool.{Bool, true, false, not, _&&_, _||_, cond, and-false}
-use mathlib.Core.List.{List, [], _∷_, _++_}
-use mathlib.Core.Option.{none}
+use mathlib.Core.Bool.{true, false, not, _&&_, _||_}
 use borrow.Author.Tests.{eqb-true, eq-eqb, not-true}
 use Rattle.cases.proofs.Cases.{test, both, true-false}
 use Rattle.can.specs.declared.Received.{Received}
 use Rattle.can.specs.Frame.{refusalOf}
-use Rattle.sdo.specs.declared.reply.Served.{Served}
 use Rattle.sdo.specs.Request.{aborting}
-use Rattle.sdo.specs.Reply.{replies}
 use Rattle.sdo.proofs.Laws.{laws as sdo-laws}
-use Rattle.waiting.specs.Line.{places, has, join}
 use Rattle.waiting.specs.Places.{waiting}
-use Rattle.waiting.specs.Calls.{withdraws, joins}
-use Rattle.waiting.proofs.After.{has-join, has-withdraws}
-use Rattle.waiting.proofs.Order.{join-is}
-use Rattle.waiting.proofs.Laws.{laws}
+use Rattle.waiting.specs.Calls.{joins}
 use Rattle.parts.specs.declared.Core.{Core}
 use Rattle.parts.specs.declared.Head.{Head}
-use Rattle.promises.specs.States.{operational, isIn, isInitialising, live, isLive, node}
-use Rattle.promises.specs.WaitingLine.{emergency, sdoReply, number, flag, may}
-use Rattle.promises.specs.Acts.{Act, nothing, enter, reset, boot, idle, send, take, lose, time, sync, serve, acted, moments, goes, act}
+use Rattle.promises.specs.States.{operational, isIn, isInitialising, isLive, node}
+use Rattle.promises.specs.WaitingLine.{sdoReply, flag}
+use Rattle.promises.specs.Acts.{Act, nothing, enter, reset, boot, idle, send, take, lose, time, sync, serve, acted, moments, act}
 use Rattle.promises.specs.Calls.{receive, meant, step, received}
 use Rattle.promises.specs.Valid.{waits, Valid}
-use Rattle.promises.specs.Meant.{Heard, Requests}
+use Rattle.promises.specs.Meant.{Heard, Requests, reply-waits, client-abort}
 use Rattle.promises.specs.Histories.{Reachable}
-use Rattle.promises.specs.Meant.{reply-waits, client-abort}
 use Rattle.promises.specs.Service.{replyDue, Replied, isHeard, isRequest, isAnswered, Serves}
 use Rattle.promises.proofs.Nothing.{step-nothing}
-use Rattle.promises.proofs.Waits.{holds-act}
 use Rattle.promises.proofs.Unmeant.{unmeant}
 use Rattle.promises.proofs.Meant.{core-step}
 use Rattle.promises.proofs.Causes.{Cause, cause, requests}
+use Rattle.promises.proofs.ReplyJoins.{at-the-end}
 use Rattle.promises.proofs.Histories.{valid-reachable}
-
--- the reply joins at the end, behind the emergency where that joins too
-last-in : (alerts replies : Bool) (ws : List ℕ) → has (number sdoReply) ws ≡ false → replies ≡ true
-    → let reply = cond replies (number sdoReply ∷ []) [] in
-    (ahead : List ℕ) × (joins ws (cond alerts (number emergency ∷ reply) reply) ≡ ahead ++ number sdoReply ∷ [])
-last-in true true ws n e =
-    (join ws (number emergency), rw (join-is (join ws (number emergency)) (number sdoReply), has-join (number sdoReply) (number emergency) ws, n))
-last-in false true ws n e = (ws, rw (join-is ws (number sdoReply), n))
-last-in alerts false ws n e = true-false (sym e)
 
 -- an act by which no reply joins
 abbrev pub JoinsNot : Core → Act → Type 0
@@ -72,24 +54,13 @@ module _ (h : Head) (f : Received) where
           record { hears = heard-as (d .0); identifier = eqb-true _ _ (d .1); length = eqb-true _ _ (c .1); live = b .1; free = not-true _ (a .1) }
 
   module _ (v : Valid h) where
-    pub serves-it : Requests h f → aborting (f .bytes) ≡ false → meant h (receive f) ≡ serve (replyDue h f)
+    serves-it : Requests h f → aborting (f .bytes) ≡ false → meant h (receive f) ≡ serve (replyDue h f)
     serves-it r a = requests h f v r ∙ rw (sdo-laws (h .core .device) (isIn operational (h .core)) (f .bytes) .replied, a)
-
-    -- the reply joins behind the kinds that stay, and the emergency where the request lets it wait
-    reply-joins : (s : Served) → isLive (h .core) ≡ true → waits h sdoReply ≡ false
-        → (ahead : List ℕ) × (waiting (act false h (serve s) .line) ≡ ahead ++ number sdoReply ∷ [])
-    reply-joins s l w =
-        let then = acted (h .core) (serve s) in
-        let stay = withdraws (waiting (h .line)) (goes (h .core) then) in
-        let none : has (number sdoReply) stay ≡ false =
-        rw (has-withdraws (number sdoReply) (waiting (h .line)) (goes (h .core) then), w) (and-false (not (has (number sdoReply) (goes (h .core) then)))) in
-        let j = last-in (may then emergency) (isLive (h .core)) stay none l in
-        (j .0, laws places .all (holds-act false h (serve s) v) ∙ j .1)
 
     pub gets-what-is-due : Requests h f → aborting (f .bytes) ≡ false → Replied h f (received h f .head)
     gets-what-is-due r a =
         let s = replyDue h f in
-        let j = reply-joins s (r .live) (r .free) in
+        let j = at-the-end h v (r .live) (r .free) s in
         let core : step h (receive f) .core ≡ acted (h .core) (serve s) = core-step h (receive f) ∙ ap (acted (h .core)) (serves-it r a) in
         record {
           ahead = j .0;

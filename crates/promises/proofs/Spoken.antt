@@ -1,17 +1,17 @@
 -- An NMT command by its bytes is one that the head hears, and the other way.
 use Prim.Native.Nat.{ℕ}
-use native.Mathlib.Omega.{arith}
 use lib.Dec.{eqb}
 use mathlib.Core.Path.{_≡_, sym, ap, subst, _∙_}
 use mathlib.Core.Bool.{not, Bool, true, false, _&&_, _||_, or-true}
 use borrow.Author.Tests.{eqb-true, not-true, eq-eqb}
-use Rattle.cases.proofs.Cases.{either, by, test, both, neither}
+use Rattle.cases.proofs.Cases.{either, by, test, both, neither, true-false}
 use Rattle.can.specs.declared.Received.{Received}
 use Rattle.parts.specs.declared.Head.{Head}
 use Rattle.promises.specs.States.{ofNode, ofCommunication, operational, stopped, preOperational, isInitialising, node, Reset, Command, noCommand, toEnter, toReset, command, byteOf, commandOf}
 use Rattle.promises.specs.Calls.{receive}
 use Rattle.promises.specs.Meant.{Heard, Commands}
-use Rattle.promises.specs.Gap.{isCommand, resets}
+use Rattle.promises.specs.Service.{takesReply}
+use Rattle.promises.specs.Gap.{isCommand, resets, stopsOrResets}
 
 -- the first byte of a stop and of a reset
 abbrev Spoken : ℕ → Command → Type 0
@@ -42,7 +42,14 @@ module _ (n : ℕ) (h : Head) (f : Received) (q : node (h .core) ≡ n) where
       (λ a. absurd (some (sym (rw a at says))))
 
   pub resets-so : (r : Reset) → Commands h f (toReset r) → isCommand n resets (receive f) ≡ true
-  resets-so r m = commands-so resets (toReset r) m (λ e. let z : _≡_ {A = ℕ} 0 1 = cc in omega arith) (λ s. s)
+  resets-so r m = commands-so resets (toReset r) m (λ e. true-false (ap takesReply e)) (λ s. s)
+
+  pub halts-so : (k : Command) → Commands h f k → takesReply k ≡ true → isCommand n stopsOrResets (receive f) ≡ true
+  halts-so noCommand m t = true-false (sym t)
+  halts-so (toEnter operational) m t = true-false (sym t)
+  halts-so (toEnter stopped) m t = commands-so stopsOrResets (toEnter stopped) m (λ e. true-false (ap takesReply e)) (λ s. rw s)
+  halts-so (toEnter preOperational) m t = true-false (sym t)
+  halts-so (toReset r) m t = commands-so stopsOrResets (toReset r) m (λ e. true-false (ap takesReply e)) (λ s. rw s (or-true (eqb (byteOf f 0) 0x02)))
 
   pub resets-heard : isInitialising (h .core) ≡ false → isCommand n resets (receive f) ≡ true → (r : Reset) × Commands h f (toReset r)
   resets-heard i e =

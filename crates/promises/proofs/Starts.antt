@@ -49,7 +49,7 @@ use Rattle.promises.proofs.Altered.{Altered, heard, timed, sent, refuse
 use Rattle.promises.proofs.Kept.{saved-after}
 use Rattle.promises.proofs.Histories.{valid-powered}
 use Rattle.promises.proofs.Demand1.{demand1}
-use Rattle.promises.proofs.Announced.{node-after}
+use Rattle.promises.proofs.SameNode.{node-after}
 
 -- equal columns are equal at each place
 same-at : {A B C : Type 0} (f : A → C) (g : B → C) (l : List A) (m : List B) (a : A) (b : B) (p : ℕ) → f a ≡ g b → map f l ≡ map g m → f (getD l p a) ≡ g (getD m p b)
@@ -194,7 +194,7 @@ starts =
       refused = λ p bad cs.
           let r = demand1 .gives-4 (p .number) (p .identity) .1 bad in
           let e : powered p ≡ started 1 noIdentity = demand1 .node-refused (p .number) (p .identity) (λ z. omega (arith, sym r ∙ z)) in
-          (node-after (powered p) cs ∙ ap (λ (h : Head). h .core .device .node) e, identity-after cs (powered p) (valid-powered p) ∙ ap (λ (h : Head). h .core .device .identity) e);
+          (node-after (powered p) (valid-powered p) cs ∙ ap (λ (h : Head). h .core .device .node) e, identity-after cs (powered p) (valid-powered p) ∙ ap (λ (h : Head). h .core .device .identity) e);
       identity-read = λ p cs.
           let h : Head = after (powered p) cs in
           let s = identity-shown (h .core .device) (isIn operational (h .core)) in

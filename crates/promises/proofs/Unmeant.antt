@@ -4,15 +4,13 @@ use native.Mathlib.Omega.{arith}
 use lib.Dec.{eqb, leb}
 use mathlib.Core.Path.{_≡_, refl}
 use mathlib.Core.Bool.{true, not, _&&_, _||_, or-true, and-false}
-use borrow.Author.Needs.{needs}
 use borrow.Author.Tests.{ne-eqb, lt-leb}
 use Rattle.cases.proofs.Cases.{by}
 use Rattle.can.specs.declared.Received.{Received}
 use Rattle.can.specs.Frame.{refusalOf}
 use Rattle.sdo.proofs.Laws.{laws as sdo-laws}
 use Rattle.waiting.specs.Line as line
-use Rattle.waiting.specs.Line.{places, has}
-use Rattle.waiting.proofs.Laws.{laws}
+use Rattle.waiting.specs.Line.{has}
 use Rattle.parts.specs.declared.Core.{Core}
 use Rattle.parts.specs.declared.Head.{Head}
 use Rattle.promises.specs.States.{operational, isIn, isInitialising, isLive, node, command, byteOf, commandOf}
@@ -21,6 +19,7 @@ use Rattle.promises.specs.Calls.{receive, commanded, synchronised, reque
 use Rattle.promises.specs.Valid.{Valid}
 use Rattle.promises.specs.Meant.{NotMeant, remote, of-29-bits, not-booted, other-identifier, command-length, other-node, other-command, state-held, sync-length, sync-state, request-length, request-state, reply-waits, client-abort}
 use Rattle.promises.proofs.Nothing.{step-nothing}
+use Rattle.promises.proofs.Waits.{reply-waiting}
 use Rattle.promises.proofs.Hearing.{heard-by}
 
 module _ (h : Head) (f : Received) where
@@ -58,7 +57,7 @@ module _ (h : Head) (f : Received) where
   unmeant v (sync-state i s) = as-sync i (rw (s, and-false (leb (f .length) 1)))
   unmeant v (request-length i n) = as-request i (rw (ne-eqb (f .length) 8 n))
   unmeant v (request-state i s) = as-request i (rw (s, and-false (eqb (f .length) 8)))
-  unmeant v (reply-waits i w) = as-request i (rw (laws places .waits line.sdoReply (search needs) (v .line), w, and-false (eqb (f .length) 8 && isLive c)))
+  unmeant v (reply-waits i w) = as-request i (rw (reply-waiting h v, w, and-false (eqb (f .length) 8 && isLive c)))
   unmeant v (client-abort i a) =
       as-request i (by None (eqb (f .length) 8 && isLive c && not (has line.sdoReply (h .line))) (λ _. rw (sdo-laws (c .device) (isIn operational c) (f .bytes) .replied, a)) (λ _. refl))
 

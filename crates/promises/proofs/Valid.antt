@@ -54,7 +54,7 @@ module _ (b : Bool) (h : Head) where
       let c = h .core in
       stays-may (flag (moments c a) k) (may c k) (may (acted c a) k) (not (sends b h k)) (waits h k) (v .only k) (sym (waits-act b h a v k) ∙ e)
 
-  pub valid-act : (a : Act) → Fits b (h .core) a → Valid h → Valid (act b h a)
+  valid-act : (a : Act) → Fits b (h .core) a → Valid h → Valid (act b h a)
   unfolding act settledTo
   valid-act a f v =
       record {

@@ -1,9 +1,11 @@
 -- Who waits after an act, in closed form: the kinds that joined, and those that waited and neither were sent nor had their condition end.
 use Prim.Native.Nat.{ℕ}
+use native.Mathlib.Omega.{arith}
 use mathlib.Core.Path.{_≡_, refl}
 use mathlib.Core.Bool.{Bool, true, not, _&&_, _||_, and-true}
 use mathlib.Core.List.{List}
 use lib.Dec.{eqb}
+use Rattle.waiting.specs.Line as line
 use Rattle.waiting.specs.Line.{places, order, has, first}
 use Rattle.waiting.specs.Places.{waiting, Holds}
 use Rattle.waiting.specs.Calls.{after, Named}
@@ -31,8 +33,12 @@ ordered (tpdo two) = refl
 pub has-those : (t : Kind → Bool) (k : Kind) → has (number k) (those t) ≡ t k
 has-those t k = rw (in-turn .exactly (λ n. t (kindOf n)) order (number k), ordered k, kind-of k, and-true (t k))
 
-pub named-those : (t : Kind → Bool) → Named places (those t)
+named-those : (t : Kind → Bool) → Named places (those t)
 named-those t = in-turn .named (λ n. t (kindOf n)) (in-turn .all-named)
+
+-- whether a reply waits, in the line and in its places
+pub reply-waiting : (h : Head) → Valid h → has line.sdoReply (h .line) ≡ waits h sdoReply
+reply-waiting h v = laws places .waits line.sdoReply (omega arith) (v .line)
 
 -- whether a slot sends that kind
 abbrev pub sends : Bool → Head → Kind → Bool

@@ -1,14 +1,12 @@
 -- A kind's condition ends by 01's withdrawals, and by no other call but the slot that sends the emergency.
-use Prim.Native.Nat.{ℕ}
 use lib.Dec.{eqb, ltb}
 use mathlib.Core.Path.{_≡_, refl, sym, ap, ap₂, _∙_}
 use mathlib.Core.Logic.{_⊎_, inl, inr}
-use mathlib.Core.Bool.{Bool, true, false, not, _&&_, and-true, and-false}
-use borrow.Author.Tests.{eqb-true, eq-eqb, not-false, ltb-false, le-ltb}
-use Rattle.cases.proofs.Cases.{by, test, true-false}
+use mathlib.Core.Bool.{Bool, true, false, not}
+use borrow.Author.Tests.{eqb-true, not-true, ltb-false}
+use Rattle.cases.proofs.Cases.{by, both, test, true-false}
 use Rattle.can.specs.declared.Received.{Received}
 use Rattle.dictionary.specs.Accepted.{on}
-use Rattle.sdo.specs.Reply.{confirmed}
 use Rattle.sdo.specs.Service.{Due, none, value, confirmation, abort, answer}
 use Rattle.waiting.specs.Line.{first}
 use Rattle.waiting.specs.Places.{waiting}
@@ -16,18 +14,18 @@ use Rattle.parts.specs.declared.Core.{Core}
 use Rattle.parts.specs.declared.Head.{Head}
 use Rattle.parts.specs.declared.Sensor.{Sensor}
 use Rattle.parts.specs.declared.Sensor.the-variants.{Missing, Raw}
-use Rattle.promises.specs.States.{Goal, operational, stopped, preOperational, state, isIn, isInitialising, isLive, good, communication, Which, pdo}
+use Rattle.promises.specs.States.{operational, stopped, preOperational, isInitialising, Which}
 use Rattle.promises.specs.WaitingLine.{Kind, emergency, sdoReply, heartbeat, tpdo, number, may}
 use Rattle.promises.specs.Acts.{Act, nothing, enter, reset, boot, idle, send, take, lose, time, sync, serve, acted}
-use Rattle.promises.specs.Calls.{Call, receive, tick, sample, slot, served, meant, step}
-use Rattle.promises.specs.Meant.{Requests, Writes, dueTo}
+use Rattle.promises.specs.Calls.{Call, receive, tick, sample, slot, meant, step}
+use Rattle.promises.specs.Meant.{Requests, dueTo}
 use Rattle.promises.specs.Valid.{Valid}
 use Rattle.promises.specs.Withdrawals.{identifierKey, Withdrawal, resets, stops, leaves, loses, switches-off, beats-no-more, silenced, found, lost}
 use Rattle.promises.proofs.Slots.{no-may}
-use Rattle.promises.proofs.Meant.{core-step, enters, resets as reset-law}
-use Rattle.promises.proofs.Causes.{Cause, cause, requests}
+use Rattle.promises.proofs.Meant.{core-step}
+use Rattle.promises.proofs.Causes.{Cause, cause}
 use Rattle.promises.proofs.Answers.{AtSlot, booting, idling, sending, at-slot}
-use Rattle.promises.proofs.Conditions.{alerting, alerts, beats, shows, alert-written, beat-written, show-written}
+use Rattle.promises.proofs.Conditions.{alerts, beats, shows, ends}
 
 -- the one kind that entering Stopped does not take
 abbrev beating : Kind → Bool
@@ -36,7 +34,7 @@ beating sdoReply = false
 beating heartbeat = true
 beating (tpdo w) = false
 
-other : (k : Kind) → beating k ≡ false → k ≡ heartbeat → ⊥
+pub other : (k : Kind) → beating k ≡ false → k ≡ heartbeat → ⊥
 other k n e = true-false (sym (ap beating e) ∙ n)
 
 -- a condition that held and did not end
@@ -56,38 +54,24 @@ module _ (h : Head) (f : Received) where
   beat-served (value w m) r e y n = goes-on y n
   beat-served (abort m) r e y n = goes-on y n
   beat-served (confirmation k v) r e y n =
-      let z = sym (beat-written c (f .bytes) k v) ∙ n in
-      test (eqb k 0x1017_00)
-      (λ t.
-      let zero-beat : v ≡ 0 = eqb-true v 0 (not-false _ (rw (beats c y .0, t) at z)) in
-      beats-no-more (record { requests = r; accepted = e ∙ ap₂ confirmation (eqb-true k 0x1017_00 t) zero-beat }))
-      (λ t. goes-on y (rw t at z))
+      let t = both (eqb k 0x1017_00) (eqb v 0) (sym (ends c (f .bytes) k v heartbeat y) ∙ ap not n) in
+      beats-no-more (record { requests = r; accepted = e ∙ ap₂ confirmation (eqb-true k 0x1017_00 (t .0)) (eqb-true v 0 (t .1)) })
 
   alert-served : (x : Due) → Requests h f → dueTo h f ≡ x → Ends emergency (serve (answer (f .bytes) x))
   alert-served none r e y n = goes-on y n
   alert-served (value w m) r e y n = goes-on y n
   alert-served (abort m) r e y n = goes-on y n
   alert-served (confirmation k v) r e y n =
-      let s = alerts c y in
-      let z = sym (alert-written c (f .bytes) k v) ∙ n in
-      test (eqb k 0x1014_00)
-      (λ t.
-      let is-off : on v ≡ false = sym (and-true (on v && true) ∙ and-true (on v)) ∙ rw (s .lives, t, s .rested, s .differs) at z in
-      silenced (record { requests = r; accepted = e ∙ ap (λ j. confirmation j v) (eqb-true k 0x1014_00 t) }) is-off)
-      (λ t. goes-on y (rw t at z))
+      let t = both (eqb k 0x1014_00) (not (on v)) (sym (ends c (f .bytes) k v emergency y) ∙ ap not n) in
+      silenced (record { requests = r; accepted = e ∙ ap (λ j. confirmation j v) (eqb-true k 0x1014_00 (t .0)) }) (not-true _ (t .1))
 
   tpdo-served : (w : Which) (x : Due) → Requests h f → dueTo h f ≡ x → Ends (tpdo w) (serve (answer (f .bytes) x))
   tpdo-served w none r e y n = goes-on y n
   tpdo-served w (value u m) r e y n = goes-on y n
   tpdo-served w (abort m) r e y n = goes-on y n
   tpdo-served w (confirmation k v) r e y n =
-      let s = shows c w y in
-      let z = sym (show-written c (f .bytes) k v w) ∙ n in
-      test (eqb k (identifierKey w))
-      (λ t.
-      let is-off : on v ≡ false = sym (and-true (on v)) ∙ rw (s .operates, t, s .is-good) at z in
-      switches-off (record { requests = r; accepted = e ∙ ap (λ j. confirmation j v) (eqb-true k (identifierKey w) t) }) is-off)
-      (λ t. goes-on y (rw t at z))
+      let t = both (eqb k (identifierKey w)) (not (on v)) (sym (ends c (f .bytes) k v (tpdo w) y) ∙ ap not n) in
+      switches-off (record { requests = r; accepted = e ∙ ap (λ j. confirmation j v) (eqb-true k (identifierKey w) (t .0)) }) (not-true _ (t .1))
 
   -- by a frame
   by-frame : (a : Act) (k : Kind) → Cause h f a → Ends k a
@@ -150,13 +134,13 @@ module _ (h : Head) (v : Valid h) where
   by-slot : (a : Act) → AtSlot h a → (k : Kind) → may (h .core) k ≡ true → may (acted (h .core) a) k ≡ false → first (waiting (h .line)) ≡ number k
   by-slot boot (booting i) k y n = goes-on y (no-may (h .core) k i)
   by-slot idle (idling i e) k y n = goes-on y n
-  by-slot (send emergency) (sending j i e) emergency y n = e
-  by-slot (send emergency) (sending j i e) sdoReply y n = goes-on y n
-  by-slot (send emergency) (sending j i e) heartbeat y n = goes-on y n
-  by-slot (send emergency) (sending j i e) (tpdo w) y n = goes-on y n
-  by-slot (send sdoReply) (sending j i e) k y n = goes-on y n
-  by-slot (send heartbeat) (sending j i e) k y n = goes-on y n
-  by-slot (send (tpdo w)) (sending j i e) k y n = goes-on y n
+  by-slot (send emergency) (sending j i e w) emergency y n = e
+  by-slot (send emergency) (sending j i e w) sdoReply y n = goes-on y n
+  by-slot (send emergency) (sending j i e w) heartbeat y n = goes-on y n
+  by-slot (send emergency) (sending j i e w) (tpdo x) y n = goes-on y n
+  by-slot (send sdoReply) (sending j i e w) k y n = goes-on y n
+  by-slot (send heartbeat) (sending j i e w) k y n = goes-on y n
+  by-slot (send (tpdo x)) (sending j i e w) k y n = goes-on y n
 
   abbrev Ended : Call → Kind → Type 0
   Ended x k = may (step h x .core) k ≡ false
@@ -170,36 +154,3 @@ module _ (h : Head) (v : Valid h) where
   listed tick k y n = goes-on y (sym (by-tick k y) ∙ core-ended tick k n)
   listed (sample s) k y n = inr (by-sample s k y (core-ended (sample s) k n))
   listed slot k y n = inl (refl, by-slot (meant h slot) (at-slot h v) k y (core-ended slot k n))
-
-  -- Each withdrawal ends the condition of what it takes.
-  written-so : {f : Received} {j n : ℕ} → Writes h f j n → (k : Kind) → may (step h (receive f) .core) k ≡ may (acted (h .core) (serve (confirmed (f .bytes) j n))) k
-  written-so {f} {j} {n} x k =
-      let m : meant h (receive f) ≡ serve (confirmed (f .bytes) j n) = requests h f v (x .requests) ∙ ap (λ d. served (answer (f .bytes) d)) (x .accepted) in
-      ap (λ c. may c k) (core-step h (receive f) ∙ ap (acted (h .core)) m)
-
-  stopped-may : (c : Core) (k : Kind) → c .nmt ≡ state stopped → (k ≡ heartbeat → ⊥) → may c k ≡ false
-  stopped-may c emergency e o = rw e
-  stopped-may c sdoReply e o = rw e
-  stopped-may c heartbeat e o = absurd (o refl)
-  stopped-may c (tpdo w) e o = rw e
-
-  elsewhere : (c d : Core) (g : Goal) → isIn operational c ≡ true → isIn g c ≡ false → d .nmt ≡ state g → isIn operational d ≡ false
-  elsewhere c d operational y n e = goes-on y n
-  elsewhere c d stopped y n e = rw e
-  elsewhere c d preOperational y n e = rw e
-
-  pub ended : {x : Call} {k : Kind} → Withdrawal h x k → Ended x k
-  ended (resets {f} {r} {k} m) = no-may (step h (receive f) .core) k (reset-law h f r m .initialising)
-  ended (stops {f} {k} m o) = stopped-may (step h (receive f) .core) k (enters h f stopped m) o
-  ended (leaves {f} {g} {w} m y n) = ap (λ t. t && on (pdo (communication d) w .identifier) && good d) (elsewhere (h .core) d g y n (enters h f g m))
-    where
-      d : Core
-      d = step h (receive f) .core
-  ended (loses {w}) = ap (λ c. may c (tpdo w)) (core-step h (sample Missing)) ∙ and-false (isIn operational (h .core) && on (pdo (communication (h .core)) w .identifier))
-  ended (switches-off {f} {v = j} {w} x o) = written-so x (tpdo w) ∙ show-written (h .core) (f .bytes) (identifierKey w) j w ∙ rw (eq-eqb (identifierKey w) (identifierKey w) refl, o, and-false (isIn operational (h .core)))
-  ended (beats-no-more {f} x) = written-so x heartbeat ∙ beat-written (h .core) (f .bytes) 0x1017_00 0 ∙ and-false (not (isInitialising (h .core)))
-  ended (silenced {f} {v = j} x o) = written-so x emergency ∙ alert-written (h .core) (f .bytes) 0x1014_00 j ∙ rw (o, and-false (isLive (h .core)))
-  ended (found {r} b a) =
-      let m : meant h (sample (Raw r)) ≡ take r = rw (le-ltb 1048575 r b) in
-      ap (λ c. may c emergency) (core-step h (sample (Raw r)) ∙ ap (acted (h .core)) m) ∙ rw a (and-false (alerting (h .core)))
-  ended (lost a) = ap (λ c. may c emergency) (core-step h (sample Missing)) ∙ rw a (and-false (alerting (h .core)))
