@@ -42,7 +42,8 @@ use Rattle.promises.specs.Gap.{nodeOf}
 use Rattle.promises.specs.Node1.{node1, toNode1}
 use Rattle.promises.specs.Worked.{missing}
 use Rattle.promises.specs.Readings.{readsIn, dueShown}
-use Rattle.promises.specs.Starts.{identityOf, Line, firstReads, firstLines, reading, All, Reads, Starts, StartsMet}
+use Rattle.promises.specs.Codes.{All}
+use Rattle.promises.specs.Starts.{identityOf, Line, firstReads, firstLines, reading, Reads, Starts, StartsMet}
 use Rattle.promises.proofs.Valid.{valid-step}
 use Rattle.promises.proofs.Meant.{core-step, resets}
 use Rattle.promises.proofs.Altered.{Altered, heard, timed, sent, refused, took, lost, restarted, served, altered}

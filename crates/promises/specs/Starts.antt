@@ -20,6 +20,7 @@ use Rattle.promises.specs.Readings.{readsIn, dueShown}
 use Rattle.promises.specs.Resets.{Saves, None, beating}
 use Rattle.promises.specs.Gap.{nodeOf}
 use Rattle.promises.specs.Node1.{node1, dataFrame, toAll}
+use Rattle.promises.specs.Codes.{All}
 use Rattle.promises.specs.Demand1.{BadNode}
 
 -- The identity numbers of power-up; with a node number that is refused they are 0.
@@ -88,11 +89,6 @@ firstLines p = firstReads (nodeOf p) (identityOf p)
 -- the request to read the entry i-j of node n
 abbrev pub reading : ℕ → ℕ → ℕ → Received
 reading n i j = dataFrame (0x600 + n) 8 (0x40 ∷ lowFirst 2 i ++ j ∷ 0 ∷ 0 ∷ 0 ∷ 0 ∷ [])
-
--- what holds of each of a list
-abbrev pub All : {A : Type 0} → (A → Type 0) → List A → Type 0
-All P [] = Unit {0}
-All P (x ∷ xs) = P x × All P xs
 
 -- A line of the list holds: of the entry, and once the boot-up frame is sent of what is due to a request for it.
 pub record Reads (p : PowerUp) (l : Line) : Type 0 where
