@@ -14,7 +14,7 @@ use Rattle.dictionary.specs.declared.read.Shown.{Shown}
 use Rattle.dictionary.specs.declared.read.Shown.the-variants.{Blank, Number}
 use Rattle.promises.specs.States.{Reset, ofNode, restored, toReset}
 use Rattle.promises.specs.Calls.{Call, slot, step, received}
-use Rattle.promises.specs.Meant.{Commands, dueTo}
+use Rattle.promises.specs.Meant.{Commands, Requests, dueTo}
 use Rattle.promises.specs.Histories.{after, PowerUp, powered}
 use Rattle.promises.specs.Readings.{readsIn, dueShown}
 use Rattle.promises.specs.Resets.{Saves, None, beating}
@@ -100,6 +100,8 @@ pub record Starts : Type 0 where
   pub all-of-them : (n : ℕ) (i : Identity) → map {B = ℕ × ℕ × ℕ} (λ l. (l .0, l .1, l .2)) (firstReads n i) ≡ map (λ r. (index r, sub r, width r)) table
   -- It starts .. with factory settings, .. the reading missing, the error list empty,
   pub reads : (p : PowerUp) → All (Reads p) (firstLines p)
+  -- (such a request is one that is then served)
+  pub asked : (p : PowerUp) (i j : ℕ) → Requests (step (powered p) slot) (reading (nodeOf p) i j)
   -- the saved set equal to them
   pub saved : (p : PowerUp) → powered p .core .device .saved ≡ powered p .core .device .settings
   -- so that a reset restores these until 1010-1 or 1011-1 was written: 81h all of them, 82h those below 2000h
