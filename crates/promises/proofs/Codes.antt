@@ -2,7 +2,7 @@
 use Prim.Native.Nat.{ℕ, _+_, _<_}
 use native.Mathlib.Omega.{arith}
 use lib.Dec.{eqb, ltb}
-use mathlib.Core.Path.{_≡_, refl, sym, ap, _∙_}
+use mathlib.Core.Path.{_≡_, refl, sym, ap, subst, _∙_}
 use mathlib.Core.Bool.{Bool, true, false, not, _&&_, _||_}
 use mathlib.Core.List.{List, [], _∷_}
 use mathlib.Core.Option.{some}
@@ -31,7 +31,7 @@ use Rattle.promises.specs.Meant.{Commands, not-booted}
 use Rattle.promises.specs.Histories.{after, PowerUp, powered}
 use Rattle.promises.specs.Readings.{readsIn}
 use Rattle.promises.specs.Gap.{nodeOf}
-use Rattle.promises.specs.Codes.{codeBy, codeFrom, codeAfter, parameters, IsFirst, Codes, CodesMet}
+use Rattle.promises.specs.Codes.{says, codeBy, codeFrom, codeAfter, IsSaid, parameters, IsFirst, Codes, CodesMet}
 use Rattle.promises.proofs.Valid.{valid-step}
 use Rattle.promises.proofs.Unmeant.{not-meant}
 use Rattle.promises.proofs.Slots.{answers, none-waits, sends-first}
@@ -95,6 +95,11 @@ module _ (n : ℕ) (h : Head) (q : node (h .core) ≡ n) (v : Valid h) where
         identifier = its-identifier;
         says = rw (y .1, rw (← q) at (x .1));
       }
+
+  says-byte : (f : Received) (b : ℕ) → isInitialising c ≡ false → says n b (receive f) ≡ true → Commands h f (command b)
+  says-byte f b i e =
+      let w = both (addressed f) (eqb (byteOf f 0) b) e in
+      subst (λ x. Commands h f (command x)) (eqb-true (byteOf f 0) b (w .1)) (commands-heard f i (w .0))
 
   -- and what the head hears is one
   is-addressed : (f : Received) (k : Command) → Commands h f k → (k ≡ noCommand → ⊥) → addressed f ≡ true
@@ -174,10 +179,11 @@ pub codes : Codes
 codes =
     record {
       codes = code-is;
+      said = (said 0x01, (said 0x02, (said 0x80, (said 0x81, (said 0x82, tt)))));
       beats = λ p cs e.
           let h : Head = after (powered p) cs in
           let s = sends h (valid p cs) heartbeat (omega arith) e in
-          (s .0, s .1 ∙ ap (λ n. frame (0x700 + n) 1 (codeOf (h .core) ∷ [])) (node-after (powered p) (valid-powered p) cs ∙ node-powered p) ∙ ap (λ x. frame (0x700 + nodeOf p) 1 (x ∷ [])) (code-is p cs));
+          (s .0, s .1 ∙ ap (λ n. frame (0x700 + n) 1 (codeOf (h .core) ∷ [])) (its-node p cs) ∙ ap (λ x. frame (0x700 + nodeOf p) 1 (x ∷ [])) (code-is p cs));
       shows = λ p cs w e.
           let h : Head = after (powered p) cs in
           let s = sends-pdo h (valid p cs) w e in
@@ -187,6 +193,12 @@ codes =
     valid : (p : PowerUp) (cs : List Call) → Valid (after (powered p) cs)
     valid p cs = valid-after (powered p) cs (valid-powered p)
 
+    its-node : (p : PowerUp) (cs : List Call) → node (after (powered p) cs .core) ≡ nodeOf p
+    its-node p cs = node-after (powered p) (valid-powered p) cs ∙ node-powered p
+
+    said : (b : ℕ) → IsSaid (b, command b)
+    said b p cs f = says-byte (nodeOf p) (after (powered p) cs) (its-node p cs) (valid p cs) f b
+
 pub codes-met : CodesMet
 unfolding entries table lookup shownAt written due act settledTo
 codes-met =
@@ -195,6 +207,8 @@ codes-met =
       operational = record { is-first = refl; its-code = refl; sent = refl };
       stopped = record { is-first = refl; its-code = refl; sent = refl };
       again = record { is-first = refl; its-code = refl; sent = refl };
+      is-booted = refl;
+      is-said = refl;
       reset = refl;
       booted = refl;
       tpdo1 = record { is-first = refl; sent = refl };

@@ -1,13 +1,14 @@
 -- `Starts` of specs/Starts.antt.
-use Prim.Native.Nat.{ℕ, suc, _<_}
+use Prim.Native.Nat.{ℕ, suc, _+_, _<_, _≤_}
 use native.Mathlib.Omega.{arith}
+use lib.Dec.{eqb}
 use lib.ListN.{length, getD, List·getD-map}
-use mathlib.Core.Path.{_≡_, refl, sym, ap, _∙_}
-use mathlib.Core.Bool.{Bool, true, false, cond}
+use mathlib.Core.Path.{_≡_, refl, sym, ap, subst, _∙_}
+use mathlib.Core.Bool.{Bool, true, false, not, _&&_, cond}
 use mathlib.Core.List.{List, [], _∷_, map}
 use mathlib.Core.Option.{some}
 use mathlib.Core.Logic.{inr, ⊎-elim}
-use borrow.Author.Tests.{eqb-true, eqb-false}
+use borrow.Author.Tests.{eqb-true, eqb-false, le-ltb}
 use Rattle.cases.specs.Tests.{within}
 use Rattle.entries.specs.declared.Device.{Device}
 use Rattle.entries.specs.declared.Identity.{Identity}
@@ -17,6 +18,7 @@ use Rattle.entries.proofs.Laws.{laws as entries-laws}
 use Rattle.dictionary.specs.declared.read.Shown.{Shown}
 use Rattle.dictionary.specs.declared.read.Shown.the-variants.{Blank, Number}
 use Rattle.dictionary.specs.Reads.{noEntry, shown, shownAt, reads}
+use Rattle.dictionary.specs.Accepted.{on}
 use Rattle.dictionary.specs.Writes.{written}
 use Rattle.dictionary.specs.Laws.{Shows}
 use Rattle.dictionary.proofs.Columns.{at-place}
@@ -29,27 +31,32 @@ use Rattle.sdo.proofs.Laws.{laws as sdo-laws}
 use Rattle.sdo.specs.declared.reply.Effect.{Effect}
 use Rattle.sdo.specs.declared.reply.Effect.the-variants.{Nothing, Reply, Write}
 use Rattle.sdo.specs.Reply.{carriedOut}
+use Rattle.waiting.specs.Line.{emergency, sdoReply, has}
+use Rattle.parts.specs.declared.Nmt.{Nmt}
 use Rattle.parts.specs.declared.Head.{Head}
-use Rattle.promises.specs.States.{operational, isIn, restored, started, startedCore}
+use Rattle.promises.specs.States.{operational, isIn, live, communication, good, restored, started, startedCore}
 use Rattle.promises.specs.Acts.{settledTo, act}
 use Rattle.promises.specs.Calls.{Call, receive, slot, step, answered, noIdentity}
 use Rattle.promises.specs.Valid.{Valid}
-use Rattle.promises.specs.Meant.{dueTo, Writes}
+use Rattle.promises.specs.Meant.{Requests, dueTo, Writes}
 use Rattle.promises.specs.Histories.{after, PowerUp, powered}
 use Rattle.promises.specs.Service.{replyDue}
-use Rattle.promises.specs.Resets.{Saves}
+use Rattle.promises.specs.Resets.{HasBooted, Saves}
 use Rattle.promises.specs.Gap.{nodeOf}
 use Rattle.promises.specs.Node1.{node1, toNode1}
 use Rattle.promises.specs.Worked.{missing}
 use Rattle.promises.specs.Readings.{readsIn, dueShown}
-use Rattle.promises.specs.Starts.{identityOf, Line, firstReads, firstLines, reading, All, Reads, Starts, StartsMet}
+use Rattle.promises.specs.Codes.{All}
+use Rattle.promises.specs.Starts.{identityOf, Line, firstReads, firstLines, reading, Reads, Starts, StartsMet}
 use Rattle.promises.proofs.Valid.{valid-step}
 use Rattle.promises.proofs.Meant.{core-step, resets}
 use Rattle.promises.proofs.Altered.{Altered, heard, timed, sent, refused, took, lost, restarted, served, altered}
 use Rattle.promises.proofs.Kept.{saved-after}
 use Rattle.promises.proofs.Histories.{valid-powered}
 use Rattle.promises.proofs.Demand1.{demand1}
-use Rattle.promises.proofs.SameNode.{node-after}
+use Rattle.promises.proofs.SameNode.{node-step, node-after, node-powered}
+use Rattle.promises.proofs.NetworkStates.{network-states}
+use Rattle.promises.proofs.Resets.{save-and-reset}
 
 -- equal columns are equal at each place
 same-at : {A B C : Type 0} (f : A → C) (g : B → C) (l : List A) (m : List B) (a : A) (b : B) (p : ℕ) → f a ≡ g b → map f l ≡ map g m → f (getD l p a) ≡ g (getD m p b)
@@ -148,6 +155,27 @@ lines p =
       due = ap (λ h. dueTo (step h slot) (reading n (line n i k .0) (line n i k .1))) e ∙ booted-due n i k l;
     })
 
+asked : (p : PowerUp) (i j : ℕ) → Requests (step (powered p) slot) (reading (nodeOf p) i j)
+asked p i j =
+    let h : Head = powered p in
+    let b : HasBooted h (step h slot) = save-and-reset .boots h (demand1 .starts p) (ap (λ (s : Nmt). eqb (s .code) 0x00) (network-states .starts p)) in
+    let low : nodeOf p ≤ 127 = subst (λ n. n ≤ 127) (node-powered p) (valid-powered p .device .node-high) in
+    record {
+      hears =
+          record {
+            unrefused = rw (le-ltb 0x7FF (0x600 + nodeOf p) (omega (arith, low)));
+            heard = ap (λ (s : Nmt). eqb (s .code) 0x00) (b .nmt);
+          };
+      identifier = ap (λ n. 0x600 + n) (sym (node-step h (valid-powered p) slot ∙ node-powered p));
+      length = refl;
+      live = ap live (b .nmt);
+      free = ap (has sdoReply) (b .line) ∙ none-waits (on (communication (h .core) .emergency) && not (good (h .core)));
+    }
+  where
+    none-waits : (t : Bool) → has sdoReply (cond t (emergency ∷ []) []) ≡ false
+    none-waits true = refl
+    none-waits false = refl
+
 saved-is : (p : PowerUp) → powered p .core .device .saved ≡ powered p .core .device .settings
 saved-is p = let e = powered-is p in ap (λ (h : Head). h .core .device .saved) e ∙ sym (ap (λ (h : Head). h .core .device .settings) e)
 
@@ -186,6 +214,7 @@ starts =
     record {
       all-of-them = all-of-them;
       reads = lines;
+      asked = asked;
       saved = saved-is;
       restores = λ p cs n f r m.
           let h : Head = after (powered p) cs in

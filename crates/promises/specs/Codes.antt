@@ -2,18 +2,20 @@
 use Prim.Native.Nat.{ℕ, _+_}
 use lib.Dec.{eqb}
 use mathlib.Core.Path.{_≡_}
-use mathlib.Core.Bool.{Bool, true, cond}
+use mathlib.Core.Bool.{Bool, true, false, cond}
 use mathlib.Core.List.{List, [], _∷_, _++_}
 use mathlib.Core.Option.{some}
 use Rattle.cases.specs.Cases.{firstOf}
+use Rattle.can.specs.declared.Received.{Received}
 use Rattle.dictionary.specs.declared.read.Shown.the-variants.{Number}
 use Rattle.sdo.specs.Worked.{bytes}
 use Rattle.waiting.specs.Line.{first}
 use Rattle.waiting.specs.Places.{waiting}
 use Rattle.parts.specs.declared.Head.{Head}
-use Rattle.promises.specs.States.{Which, one, two}
+use Rattle.promises.specs.States.{operational, stopped, preOperational, isInitialising, ofNode, ofCommunication, Which, one, two, Command, toEnter, toReset}
 use Rattle.promises.specs.WaitingLine.{Kind, heartbeat, tpdo, number, frame}
 use Rattle.promises.specs.Calls.{Call, receive, tick, sample, slot, slotted}
+use Rattle.promises.specs.Meant.{Commands}
 use Rattle.promises.specs.Histories.{after, PowerUp, powered}
 use Rattle.promises.specs.Readings.{readsIn}
 use Rattle.promises.specs.Gap.{nodeOf, isCommand}
@@ -49,6 +51,22 @@ codeFrom n present (c ∷ cs) = codeFrom n (codeBy n present c) cs
 abbrev pub codeAfter : ℕ → List Call → ℕ
 codeAfter n cs = codeFrom n 0x00 cs
 
+-- 01h Operational, 02h Stopped, 80h Pre-operational, 81h reset node, 82h reset communication
+abbrev pub commandBytes : List (ℕ × Command)
+commandBytes =
+    (0x01, toEnter operational) ∷ (0x02, toEnter stopped) ∷ (0x80, toEnter preOperational) ∷ (0x81, toReset ofNode) ∷ (0x82, toReset ofCommunication) ∷ []
+
+-- what holds of each of a list
+abbrev pub All : {A : Type 0} → (A → Type 0) → List A → Type 0
+All P [] = Unit {0}
+All P (x ∷ xs) = P x × All P xs
+
+-- A command of this first byte to the node, once it has booted, is this command.
+abbrev pub IsSaid : ℕ × Command → Type 0
+IsSaid x =
+    (p : PowerUp) (cs : List Call) (f : Received) → let h = after (powered p) cs in
+    isInitialising (h .core) ≡ false → says (nodeOf p) (x .0) (receive f) ≡ true → Commands h f (x .1)
+
 -- whose parameters, 1800h or 1801h
 abbrev pub parameters : Which → ℕ
 parameters one = 0x1800
@@ -60,6 +78,7 @@ IsFirst k h = first (waiting (h .line)) ≡ number k
 
 pub record Codes : Type 0 where
   pub codes : (p : PowerUp) (cs : List Call) → after (powered p) cs .core .nmt .code ≡ codeAfter (nodeOf p) cs
+  pub said : All IsSaid commandBytes
   -- Heartbeat: 700h+N, one byte, the state code.
   pub beats : (p : PowerUp) (cs : List Call) → let h = after (powered p) cs in IsFirst heartbeat h
       → (slotted h .waited ≡ true) × (slotted h .frame ≡ frame (0x700 + nodeOf p) 1 (codeAfter (nodeOf p) cs ∷ []))
@@ -87,6 +106,9 @@ pub record CodesMet : Type 0 where
   pub operational : Beats (beating ++ command 0x01 ∷ []) 0x05
   pub stopped : Beats (beating ++ command 0x02 ∷ []) 0x04
   pub again : Beats (beating ++ command 0x02 ∷ command 0x80 ∷ []) 0x7F
+  -- the node has booted, and 81h is said to it
+  pub is-booted : isInitialising (after node1 beating .core) ≡ false
+  pub is-said : says 1 0x81 (command 0x81) ≡ true
   -- 81h, and 01h has no effect in Initialising; 82h, and the boot-up frame is sent
   pub reset : codeAfter 1 (beating ++ command 0x81 ∷ command 0x01 ∷ []) ≡ 0x00
   pub booted : codeAfter 1 (beating ++ command 0x82 ∷ slot ∷ []) ≡ 0x7F

@@ -14,12 +14,13 @@ use Rattle.dictionary.specs.declared.read.Shown.{Shown}
 use Rattle.dictionary.specs.declared.read.Shown.the-variants.{Blank, Number}
 use Rattle.promises.specs.States.{Reset, ofNode, restored, toReset}
 use Rattle.promises.specs.Calls.{Call, slot, step, received}
-use Rattle.promises.specs.Meant.{Commands, dueTo}
+use Rattle.promises.specs.Meant.{Commands, Requests, dueTo}
 use Rattle.promises.specs.Histories.{after, PowerUp, powered}
 use Rattle.promises.specs.Readings.{readsIn, dueShown}
 use Rattle.promises.specs.Resets.{Saves, None, beating}
 use Rattle.promises.specs.Gap.{nodeOf}
 use Rattle.promises.specs.Node1.{node1, dataFrame, toAll}
+use Rattle.promises.specs.Codes.{All}
 use Rattle.promises.specs.Demand1.{BadNode}
 
 -- The identity numbers of power-up; with a node number that is refused they are 0.
@@ -89,11 +90,6 @@ firstLines p = firstReads (nodeOf p) (identityOf p)
 abbrev pub reading : ℕ → ℕ → ℕ → Received
 reading n i j = dataFrame (0x600 + n) 8 (0x40 ∷ lowFirst 2 i ++ j ∷ 0 ∷ 0 ∷ 0 ∷ 0 ∷ [])
 
--- what holds of each of a list
-abbrev pub All : {A : Type 0} → (A → Type 0) → List A → Type 0
-All P [] = Unit {0}
-All P (x ∷ xs) = P x × All P xs
-
 -- A line of the list holds: of the entry, and once the boot-up frame is sent of what is due to a request for it.
 pub record Reads (p : PowerUp) (l : Line) : Type 0 where
   pub entry : readsIn (powered p) (l .0) (l .1) ≡ some (l .3)
@@ -104,6 +100,8 @@ pub record Starts : Type 0 where
   pub all-of-them : (n : ℕ) (i : Identity) → map {B = ℕ × ℕ × ℕ} (λ l. (l .0, l .1, l .2)) (firstReads n i) ≡ map (λ r. (index r, sub r, width r)) table
   -- It starts .. with factory settings, .. the reading missing, the error list empty,
   pub reads : (p : PowerUp) → All (Reads p) (firstLines p)
+  -- (such a request is one that is then served)
+  pub asked : (p : PowerUp) (i j : ℕ) → Requests (step (powered p) slot) (reading (nodeOf p) i j)
   -- the saved set equal to them
   pub saved : (p : PowerUp) → powered p .core .device .saved ≡ powered p .core .device .settings
   -- so that a reset restores these until 1010-1 or 1011-1 was written: 81h all of them, 82h those below 2000h
