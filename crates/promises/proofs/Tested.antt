@@ -14,6 +14,7 @@ use Rattle.sdo.specs.declared.reply.Effect.the-variants.{Nothing, Reply, Write}
 use Rattle.sdo.specs.Service.{Due, none, value, confirmation, abort, answer}
 use Rattle.waiting.specs.Line.{first}
 use Rattle.parts.specs.declared.Head.{Head}
+use Rattle.parts.specs.declared.Sensor.{Sensor}
 use Rattle.parts.specs.declared.Sensor.the-variants.{Missing, Raw}
 use Rattle.promises.specs.States.{operational, stopped, preOperational, isIn, isInitialising, node, Command, noCommand, toEnter, toReset, commandOf}
 use Rattle.promises.specs.Acts.{Act, nothing, enter, reset, boot, idle, send, take, lose, time, sync, serve}
@@ -145,19 +146,19 @@ record Otherwise (h : Head) (f : Received) (m : Marks) : Type 0 where
   pub untimed : m .times ≡ false
 
 module _ (h : Head) (v : Valid h) where
+  as-frame : {f : Received} {e : Effect} {i s : Bool}
+      → (isRequest h f ≡ false → (t : ℕ → ℕ → Bool) → effectTo t e ≡ false)
+      → (isEntry h f ≡ false → i ≡ false)
+      → (isSync h f ≡ false → s ≡ false)
+      → Otherwise h f (mark e false i s false)
+  as-frame w i s = record { unwritten = w; unbooted = refl; unentered = i; unsynced = s; untimed = refl }
+
   plain : (f : Received) → Otherwise h f unmarked
-  plain f = record { unwritten = λ _ _. refl; unbooted = refl; unentered = λ _. refl; unsynced = λ _. refl; untimed = refl }
+  plain f = as-frame (λ _ _. refl) (λ _. refl) (λ _. refl)
 
   otherwise : (f : Received) (a : Act) → Cause h f a → Otherwise h f (marks a)
   otherwise f nothing x = plain f
-  otherwise f (enter operational) x =
-      record {
-        unwritten = λ _ _. refl;
-        unbooted = refl;
-        unentered = λ n. true-false (sym (is-entry h f .1 x) ∙ n);
-        unsynced = λ _. refl;
-        untimed = refl;
-      }
+  otherwise f (enter operational) x = as-frame (λ _ _. refl) (λ n. true-false (sym (is-entry h f .1 x) ∙ n)) (λ _. refl)
   otherwise f (enter stopped) x = plain f
   otherwise f (enter preOperational) x = plain f
   otherwise f (reset r) x = plain f
@@ -167,22 +168,8 @@ module _ (h : Head) (v : Valid h) where
   otherwise f (take r) x = absurd x
   otherwise f lose x = absurd x
   otherwise f time x = absurd x
-  otherwise f sync x =
-      record {
-        unwritten = λ _ _. refl;
-        unbooted = refl;
-        unentered = λ _. refl;
-        unsynced = λ n. true-false (sym (is-sync h f .1 x) ∙ n);
-        untimed = refl;
-      }
-  otherwise f (serve s) x =
-      record {
-        unwritten = λ n _. true-false (sym (is-request h f .1 (x .0)) ∙ n);
-        unbooted = refl;
-        unentered = λ _. refl;
-        unsynced = λ _. refl;
-        untimed = refl;
-      }
+  otherwise f sync x = as-frame (λ _ _. refl) (λ _. refl) (λ n. true-false (sym (is-sync h f .1 x) ∙ n))
+  otherwise f (serve s) x = as-frame (λ n _. true-false (sym (is-request h f .1 (x .0)) ∙ n)) (λ _. refl) (λ _. refl)
 
   tested-frame : (f : Received) → Tested h (receive f) (marks (meant h (receive f)))
   tested-frame f =
@@ -199,17 +186,17 @@ module _ (h : Head) (v : Valid h) where
         ticks = ap (λ b. b && isIn operational (h .core)) (sym (o .untimed));
       }
 
+  of-sample : {s : Sensor} → Tested h (sample s) unmarked
+  of-sample = record { written = λ _. refl; boots = refl; enters = refl; syncs = refl; beats = refl; ticks = refl }
+
   pub tested : (x : Call) → Tested h x (marks (meant h x))
   tested (receive f) = tested-frame f
   tested tick =
       by (λ a. Tested h tick (marks a)) (isInitialising (h .core))
       (λ i. record { written = λ _. refl; boots = refl; enters = refl; syncs = refl; beats = ap not i; ticks = not-operational (h .core) i })
       (λ i. record { written = λ _. refl; boots = refl; enters = refl; syncs = refl; beats = ap not i; ticks = refl })
-  tested (sample Missing) = record { written = λ _. refl; boots = refl; enters = refl; syncs = refl; beats = refl; ticks = refl }
-  tested (sample (Raw r)) =
-      by (λ a. Tested h (sample (Raw r)) (marks a)) (ltb 1048575 r)
-      (λ _. record { written = λ _. refl; boots = refl; enters = refl; syncs = refl; beats = refl; ticks = refl })
-      (λ _. record { written = λ _. refl; boots = refl; enters = refl; syncs = refl; beats = refl; ticks = refl })
+  tested (sample Missing) = of-sample
+  tested (sample (Raw r)) = by (λ a. Tested h (sample (Raw r)) (marks a)) (ltb 1048575 r) (λ _. of-sample) (λ _. of-sample)
   tested slot =
       by (λ a. Tested h slot (marks a)) (isInitialising (h .core)) at-slot
       (λ i. by (λ a. Tested h slot (marks a)) (eqb (first (h .line)) 0) (λ _. at-slot i) (λ _. at-slot i))
