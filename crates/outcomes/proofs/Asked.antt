@@ -1,4 +1,6 @@
 -- `Asked` of specs/Asked.antt. Assumes nothing.
+use mathlib.Core.Path.{refl}
+use denote.Ref.{now}
 use Rattle.promises.proofs.Histories.{valid-reachable}
 use Rattle.outcomes.specs.Asked.{Asked}
 
@@ -70,6 +72,16 @@ asked =
       head·tick = λ κs a. valid-reachable (a .0);
       head·sample = λ κs a. valid-reachable (a .0);
       head·slot = λ κs a. valid-reachable (a .0);
+      lent·haybleater-power-up = λ M 𝓤 H A m f κs a g. refl;
+      lent·haybleater-receive = (λ κs a. valid-reachable (now (a .0)), λ M 𝓤 H A m f κs a g. refl);
+      lent·haybleater-tick = (λ κs a. valid-reachable (now (a .0)), λ M 𝓤 H A m f κs a g. refl);
+      lent·haybleater-sample = (λ κs a. valid-reachable (now (a .0)), λ M 𝓤 H A m f κs a g. refl);
+      lent·haybleater-missing = (λ κs a. valid-reachable (now (a .0)), λ M 𝓤 H A m f κs a g. refl);
+      lent·haybleater-slot = (λ κs a. valid-reachable (now (a .0)), λ M 𝓤 H A m f κs a g. refl);
+      lent·haybleater-state = λ M 𝓤 H A m f κs a g. refl;
+      lent·haybleater-good = λ M 𝓤 H A m f κs a g. refl;
+      lent·haybleater-position = (λ κs a. valid-reachable (now (a .0)), λ M 𝓤 H A m f κs a g. refl);
+      lent·haybleater-waits = λ M 𝓤 H A m f κs a g. refl;
       text·line·empty = λ κs a. tt;
       text·line·kept = λ κs a. tt;
       text·line·at-most = λ κs a. tt;

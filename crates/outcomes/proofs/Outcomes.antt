@@ -1,10 +1,27 @@
 -- `Outcomes` of specs/Outcomes.antt. Assumes nothing.
-use mathlib.Core.Path.{_≡_, refl, sym, _∙_}
+use Prim.Native.Nat.{ℕ}
+use mathlib.Core.Path.{_≡_, refl, sym, ap, _∙_}
+use Rattle.parts.specs.declared.Head.{Head}
+use Rattle.parts.specs.declared.Answer.{Answer}
+use Rattle.parts.specs.declared.Sent.{Sent}
+use Rattle.promises.specs.Calls.{answered}
+use Rattle.lent.specs.declared.Due.{Due}
+use Rattle.lent.specs.Steps.{sentAs}
 use Rattle.outcomes.specs.Outcomes.{Outcomes}
 
 -- two outcomes whose answer is the one that is due, and of which nothing else is left
 same : {A B : Type 0} {due : A} (x y : A × B) → x .1 ≡ y .1 → x .0 ≡ due → y .0 ≡ due → x ≡ y
 same x y l p q = λ i. ((p ∙ sym q) i, l i)
+
+-- two outcomes of a lent head: what is answered, what is left of the head, and nothing else
+answered-alike : {C : Type 0} {due : Answer} (x y : ℕ × (Head × C)) → x .1 .1 ≡ y .1 .1 → answered (x .0) (x .1 .0) ≡ due → answered (y .0) (y .1 .0) ≡ due → x ≡ y
+answered-alike x y l p q = λ i. ((p ∙ sym q) i .refusal, ((p ∙ sym q) i .head, l i))
+
+sent-alike : {C : Type 0} {due : Sent} (x y : Due × (Head × C)) → x .1 .1 ≡ y .1 .1 → sentAs (x .0) (x .1 .0) ≡ due → sentAs (y .0) (y .1 .0) ≡ due → x ≡ y
+sent-alike x y l p q = λ i. (record { waited = (p ∙ sym q) i .waited; frame = (p ∙ sym q) i .frame }, ((p ∙ sym q) i .head, l i))
+
+left-alike : {A C : Type 0} {due : Head} (x y : A × (Head × C)) → x .0 ≡ y .0 → x .1 .1 ≡ y .1 .1 → x .1 .0 ≡ due → y .1 .0 ≡ due → x ≡ y
+left-alike x y k l p q = λ i. (k i, ((p ∙ sym q) i, l i))
 
 pub outcomes : Outcomes
 outcomes =
@@ -74,6 +91,16 @@ outcomes =
       head·tick = λ κs a x y p q. same x y refl (p .0) (q .0);
       head·sample = λ κs a x y p q. same x y refl (p .0) (q .0);
       head·slot = λ κs a x y p q. same x y refl (p .0) (q .0);
+      lent·haybleater-power-up = (λ κs a x y p q. answered-alike x y refl (p .0) (q .0), λ M 𝓤 H A m f κs a g r e. refl);
+      lent·haybleater-receive = (λ κs a x y p q. answered-alike x y refl (p .0) (q .0), λ M 𝓤 H A m f κs a g r e. refl);
+      lent·haybleater-tick = (λ κs a x y p q. left-alike x y refl refl (p .0) (q .0), λ M 𝓤 H A m f κs a g r e. refl);
+      lent·haybleater-sample = (λ κs a x y p q. answered-alike x y refl (p .0) (q .0), λ M 𝓤 H A m f κs a g r e. refl);
+      lent·haybleater-missing = (λ κs a x y p q. left-alike x y refl refl (ap (λ (a : Answer). a .head) (p .0)) (ap (λ (a : Answer). a .head) (q .0)), λ M 𝓤 H A m f κs a g r e. refl);
+      lent·haybleater-slot = (λ κs a x y p q. sent-alike x y refl (p .0) (q .0), λ M 𝓤 H A m f κs a g r e. refl);
+      lent·haybleater-state = (λ κs a x y p q. same x y refl p q, λ M 𝓤 H A m f κs a g r e. refl);
+      lent·haybleater-good = (λ κs a x y p q. same x y refl p q, λ M 𝓤 H A m f κs a g r e. refl);
+      lent·haybleater-position = (λ κs a x y p q. same x y refl p q, λ M 𝓤 H A m f κs a g r e. refl);
+      lent·haybleater-waits = (λ κs a x y p q. same x y refl p q, λ M 𝓤 H A m f κs a g r e. refl);
       text·line·empty = λ κs a x y. same x y refl;
       text·line·kept = λ κs a x y. same x y refl;
       text·line·at-most = λ κs a x y. same x y refl;

@@ -7,6 +7,7 @@ use Rattle.position.specs.Profile.{ValidProfile}
 use Rattle.entries.specs.Table.{table}
 use Rattle.dictionary.specs.Writes.{Fits}
 use Rattle.promises.specs.Histories.{Reachable}
+use Rattle.promises.specs.Valid.{Valid}
 use Rattle.text.specs.Lines.{longest}
 use Rattle.can.proofs as can
 use Rattle.waiting.proofs as waiting
@@ -16,11 +17,12 @@ use Rattle.dictionary.proofs as dictionary
 use Rattle.sdo.proofs as sdo
 use Rattle.services.proofs as services
 use Rattle.head.proofs as head
+use Rattle.lent.proofs as lent
 use Rattle.text.proofs as text
 use Rattle.transcript.proofs as transcript
-use Rattle.outcomes.specs.Outcome.{AsksNothing, AsksOnly}
+use Rattle.outcomes.specs.Outcome.{AsksNothing, AsksOnly, AsksNothingOf, AsksOnlyOf}
 
-pub record Asked : Type 0 where
+pub record Asked : Type 2 where
   pub can·refusal : AsksNothing can.refusal.ended can.refusal.Reads.Asked
   pub can·word : AsksNothing can.word.ended can.word.Reads.Asked
   pub can·long : AsksNothing can.long.ended can.long.Reads.Asked
@@ -87,6 +89,16 @@ pub record Asked : Type 0 where
   pub head·tick : AsksOnly head.tick.ended (λ κs a. Reachable (a .0)) head.tick.Reads.Asked
   pub head·sample : AsksOnly head.sample.ended (λ κs a. Reachable (a .0)) head.sample.Reads.Asked
   pub head·slot : AsksOnly head.slot.ended (λ κs a. Reachable (a .0)) head.slot.Reads.Asked
+  pub lent·haybleater-power-up : AsksNothingOf lent.haybleater_power_up.ended (λ M. lent.haybleater_power_up.clauses {M = M})
+  pub lent·haybleater-receive : AsksOnlyOf lent.haybleater_receive.ended (λ κs a. Reachable (now (a .0))) (λ κs a. Valid (now (a .0))) (λ M. lent.haybleater_receive.clauses {M = M})
+  pub lent·haybleater-tick : AsksOnlyOf lent.haybleater_tick.ended (λ κs a. Reachable (now (a .0))) (λ κs a. Valid (now (a .0))) (λ M. lent.haybleater_tick.clauses {M = M})
+  pub lent·haybleater-sample : AsksOnlyOf lent.haybleater_sample.ended (λ κs a. Reachable (now (a .0))) (λ κs a. Valid (now (a .0))) (λ M. lent.haybleater_sample.clauses {M = M})
+  pub lent·haybleater-missing : AsksOnlyOf lent.haybleater_missing.ended (λ κs a. Reachable (now (a .0))) (λ κs a. Valid (now (a .0))) (λ M. lent.haybleater_missing.clauses {M = M})
+  pub lent·haybleater-slot : AsksOnlyOf lent.haybleater_slot.ended (λ κs a. Reachable (now (a .0))) (λ κs a. Valid (now (a .0))) (λ M. lent.haybleater_slot.clauses {M = M})
+  pub lent·haybleater-state : AsksNothingOf lent.haybleater_state.ended (λ M. lent.haybleater_state.clauses {M = M})
+  pub lent·haybleater-good : AsksNothingOf lent.haybleater_good.ended (λ M. lent.haybleater_good.clauses {M = M})
+  pub lent·haybleater-position : AsksOnlyOf lent.haybleater_position.ended (λ κs a. Reachable (now (a .0))) (λ κs a. Valid (now (a .0))) (λ M. lent.haybleater_position.clauses {M = M})
+  pub lent·haybleater-waits : AsksNothingOf lent.haybleater_waits.ended (λ M. lent.haybleater_waits.clauses {M = M})
   pub text·line·empty : AsksNothing text.line.empty.ended text.line.empty.Reads.Asked
   pub text·line·kept : AsksNothing text.line.kept.ended text.line.kept.Reads.Asked
   pub text·line·at-most : AsksNothing text.line.at_most.ended text.line.at_most.Reads.Asked

@@ -1,5 +1,12 @@
 -- `Outcomes`: each public function of every crate, from below upwards, leaves one outcome.
 -- docs/PROMISES.md lists what has no such theorem, and why.
+use denote.Ref.{now}
+use mathlib.Core.Path.{_≡_}
+use Rattle.parts.specs.declared.Sensor.the-variants.{Missing, Raw}
+use Rattle.promises.specs.Calls.{answered}
+use Rattle.promises.specs.Promised.{PowersUp, Receives, Ticks, Samples, Slots}
+use Rattle.lent.specs.Questions.{stateCode, isGood, positionOf, anyWaits}
+use Rattle.lent.specs.Steps.{sentAs}
 use Rattle.can.proofs as can
 use Rattle.waiting.proofs as waiting
 use Rattle.position.proofs as position
@@ -8,11 +15,12 @@ use Rattle.dictionary.proofs as dictionary
 use Rattle.sdo.proofs as sdo
 use Rattle.services.proofs as services
 use Rattle.head.proofs as head
+use Rattle.lent.proofs as lent
 use Rattle.text.proofs as text
 use Rattle.transcript.proofs as transcript
-use Rattle.outcomes.specs.Outcome.{OneOutcome}
+use Rattle.outcomes.specs.Outcome.{OneOutcome, OneOutcomeOf}
 
-pub record Outcomes : Type 0 where
+pub record Outcomes : Type 2 where
   pub can·refusal : OneOutcome can.refusal.ended can.refusal.Reads.Learnt
   pub can·word : OneOutcome can.word.ended can.word.Reads.Learnt
   pub can·long : OneOutcome can.long.ended can.long.Reads.Learnt
@@ -78,6 +86,16 @@ pub record Outcomes : Type 0 where
   pub head·tick : OneOutcome head.tick.ended head.tick.Reads.Learnt
   pub head·sample : OneOutcome head.sample.ended head.sample.Reads.Learnt
   pub head·slot : OneOutcome head.slot.ended head.slot.Reads.Learnt
+  pub lent·haybleater-power-up : OneOutcomeOf lent.haybleater_power_up.ended (λ κs a r e. PowersUp (a .1 .0) (a .1 .1 .0) (answered r (now (e .0)))) (λ M. lent.haybleater_power_up.clauses {M = M})
+  pub lent·haybleater-receive : OneOutcomeOf lent.haybleater_receive.ended (λ κs a r e. Receives (now (a .0)) (a .1 .0) (answered r (now (e .0)))) (λ M. lent.haybleater_receive.clauses {M = M})
+  pub lent·haybleater-tick : OneOutcomeOf lent.haybleater_tick.ended (λ κs a r e. Ticks (now (a .0)) (now (e .0))) (λ M. lent.haybleater_tick.clauses {M = M})
+  pub lent·haybleater-sample : OneOutcomeOf lent.haybleater_sample.ended (λ κs a r e. Samples (now (a .0)) (Raw (a .1 .0)) (answered r (now (e .0)))) (λ M. lent.haybleater_sample.clauses {M = M})
+  pub lent·haybleater-missing : OneOutcomeOf lent.haybleater_missing.ended (λ κs a r e. Samples (now (a .0)) Missing (answered 0 (now (e .0)))) (λ M. lent.haybleater_missing.clauses {M = M})
+  pub lent·haybleater-slot : OneOutcomeOf lent.haybleater_slot.ended (λ κs a r e. Slots (now (a .0)) (sentAs r (now (e .0)))) (λ M. lent.haybleater_slot.clauses {M = M})
+  pub lent·haybleater-state : OneOutcomeOf lent.haybleater_state.ended (λ κs a r e. r ≡ stateCode (now (a .0))) (λ M. lent.haybleater_state.clauses {M = M})
+  pub lent·haybleater-good : OneOutcomeOf lent.haybleater_good.ended (λ κs a r e. r ≡ isGood (now (a .0))) (λ M. lent.haybleater_good.clauses {M = M})
+  pub lent·haybleater-position : OneOutcomeOf lent.haybleater_position.ended (λ κs a r e. r ≡ positionOf (now (a .0))) (λ M. lent.haybleater_position.clauses {M = M})
+  pub lent·haybleater-waits : OneOutcomeOf lent.haybleater_waits.ended (λ κs a r e. r ≡ anyWaits (now (a .0))) (λ M. lent.haybleater_waits.clauses {M = M})
   pub text·line·empty : OneOutcome text.line.empty.ended text.line.empty.Reads.Learnt
   pub text·line·kept : OneOutcome text.line.kept.ended text.line.kept.Reads.Learnt
   pub text·line·at-most : OneOutcome text.line.at_most.ended text.line.at_most.Reads.Learnt

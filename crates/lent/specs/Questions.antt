@@ -1,0 +1,31 @@
+-- What a host may ask of the head that it keeps, without altering it.
+use Prim.Native.Nat.{ℕ}
+use mathlib.Core.Bool.{Bool, true, false}
+use mathlib.Core.Option.{Option, none, some}
+use Rattle.dictionary.specs.declared.read.Shown.{Shown}
+use Rattle.dictionary.specs.declared.read.Shown.the-variants.{Blank, Number}
+use Rattle.parts.specs.declared.Head.{Head}
+use Rattle.promises.specs.Calls.{slotted}
+use Rattle.promises.specs.Readings.{readsIn}
+use Rattle.lent.specs.declared.Located.{Located}
+
+-- Each NMT state is named with its heartbeat code; Initialising with that of the boot-up frame.
+abbrev pub stateCode : Head → ℕ
+stateCode h = h .core .nmt .code
+
+abbrev pub isGood : Head → Bool
+isGood h = h .core .device .reading .good
+
+-- a number, and none for a blank: blank is not zero
+abbrev pub numberIn : Option Shown → Located
+numberIn none = record { known = false; position = 0 }
+numberIn (some Blank) = record { known = false; position = 0 }
+numberIn (some (Number n)) = record { known = true; position = n }
+
+-- 6004-0: position; blank while missing
+abbrev pub positionOf : Head → Located
+positionOf h = numberIn (readsIn h 0x6004 0)
+
+-- whether a slot would send a frame
+abbrev pub anyWaits : Head → Bool
+anyWaits h = slotted h .waited

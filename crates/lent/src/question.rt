@@ -1,0 +1,49 @@
+//! What a host may ask of a head, by value.
+ghost use mathlib.Core.Path.{_≡_};
+ghost use Rattle.promises.specs.Valid.{Valid};
+ghost use Rattle.lent.specs.Questions.{stateCode, isGood, positionOf, anyWaits};
+use crate::Located;
+use parts::Head;
+use services::state;
+
+const NO_KIND: u8 = 0;
+
+pub fn state(head: Head) -> u8
+    ensures { λ r. ⌜ r ≡ stateCode head ⌝ }
+{
+    head.core.nmt.code
+}
+
+pub fn good(head: Head) -> bool
+    ensures { λ r. ⌜ r ≡ isGood head ⌝ }
+{
+    head.core.device.reading.good
+}
+
+pub fn position(head: Head) -> Located
+    requires { ⌜ Valid head ⌝ }
+    ensures { λ r. ⌜ r ≡ positionOf head ⌝ }
+{
+    if head.core.device.reading.good {
+        return Located {
+            known: true,
+            position: position::position_of(
+                head.core.device.settings.profile,
+                head.core.device.reading.raw,
+            ),
+        };
+    }
+    Located {
+        known: false,
+        position: 0,
+    }
+}
+
+pub fn waits(head: Head) -> bool
+    ensures { λ r. ⌜ r ≡ anyWaits head ⌝ }
+{
+    let state = head.core.nmt;
+    let line = head.line;
+    let kind = waiting::first(line);
+    state::is_initialising(state) | (kind != NO_KIND)
+}
