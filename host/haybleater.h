@@ -1,0 +1,187 @@
+/*
+ * Haybleater: the logic of a CANopen encoder head, for a host in C99 or C++.
+ *
+ * The host keeps the head in its own memory and lends it for each call. What it owes:
+ *   - haybleater_power_up first, and no other call on that memory before it;
+ *   - haybleater_receive for every frame that its CAN controller receives, whoever it is meant for;
+ *   - haybleater_tick once each millisecond;
+ *   - haybleater_sample or haybleater_missing for each sample of the sensor;
+ *   - haybleater_slot whenever its CAN controller can take a frame; it sends `frame` exactly if `waited`.
+ *
+ * Blank is not zero. Before the first sample and after haybleater_missing there is no position: no position frame is
+ * sent, entry 6004h aborts with 0800 0024h, and haybleater_position answers `known` false. The 0 beside it is no position.
+ *
+ * What is proved: for every argument, refused ones too, a call's answer and the head that it leaves are determined by its
+ * contract in crates/lent/src/lib.rt; each call ends, and leaves a head that every call can be made with.
+ * What is not, and the caller has to see to:
+ *   - the pointer is to a haybleater_head, aligned as the type asks, that haybleater_power_up made and calls altered;
+ *   - nobody else reads or writes that head during a call: one thread at a time, and no interrupt in between;
+ *   - a bool holds 0 or 1, as every C bool does that was not written byte by byte.
+ * No call blocks, allocates or keeps the pointer, and none has state of its own: heads do not know of each other.
+ */
+#ifndef HAYBLEATER_H
+#define HAYBLEATER_H
+
+#include <stdbool.h>
+#include <stddef.h>
+#include <stdint.h>
+
+#ifdef __cplusplus
+extern "C" {
+#endif
+
+/* Refusal numbers. */
+#define HAYBLEATER_NO_REFUSAL 0
+#define HAYBLEATER_BAD_IDENTIFIER 1 /* an 11-bit identifier above 7FFh, or a 29-bit one above 1FFF FFFFh */
+#define HAYBLEATER_BAD_LENGTH 2     /* a frame length above 8; HAYBLEATER_BAD_IDENTIFIER comes first */
+#define HAYBLEATER_BAD_SAMPLE 3     /* a raw sample above 1,048,575 */
+#define HAYBLEATER_BAD_NODE 4       /* a node number not 1..127 */
+
+/* NMT states, each named with its heartbeat code. */
+#define HAYBLEATER_INITIALISING 0x00
+#define HAYBLEATER_STOPPED 0x04
+#define HAYBLEATER_OPERATIONAL 0x05
+#define HAYBLEATER_PRE_OPERATIONAL 0x7F
+
+/*
+ * A head. Only haybleater_power_up makes one. Its contents are private: they are never built from bytes, stored ones
+ * neither. A whole head may be copied by assignment; the copy is another head.
+ */
+typedef struct {
+    uint32_t private_to_haybleater[47];
+} haybleater_head;
+
+/* The identity numbers, which entries 1018-1 to 1018-4 show. */
+typedef struct {
+    uint32_t vendor;
+    uint32_t product;
+    uint32_t revision;
+    uint32_t serial;
+} haybleater_identity;
+
+/* A frame as the CAN controller received it. Bytes from `length` on are ignored. */
+typedef struct {
+    uint32_t identifier;
+    bool extended; /* the identifier has 29 bits and not 11 */
+    bool remote;   /* a remote frame and not a data frame */
+    uint8_t length;
+    uint8_t bytes[8];
+} haybleater_received;
+
+/* A frame to send: a data frame with an 11-bit identifier. Bytes from `length` on are 0. */
+typedef struct {
+    uint32_t identifier;
+    uint8_t length;
+    uint8_t bytes[8];
+} haybleater_frame;
+
+/* The frame to send, if one waited; it is all 0 otherwise, and not to be sent. */
+typedef struct {
+    bool waited;
+    haybleater_frame frame;
+} haybleater_due;
+
+/* A position, if there is one; it is 0 otherwise, and no position. */
+typedef struct {
+    bool known;
+    uint32_t position;
+} haybleater_located;
+
+/*
+ * Makes a head: in Initialising, with factory settings, the saved set equal to them, the reading missing, and the boot-up
+ * frame waiting. The memory may hold anything before: it is not read.
+ * Refuses a node number not 1..127 with HAYBLEATER_BAD_NODE; a head is made all the same, of node 1 with identity numbers 0.
+ */
+uint8_t haybleater_power_up(haybleater_head *head, uint8_t node, haybleater_identity identity);
+
+/*
+ * A frame was received. Refuses with HAYBLEATER_BAD_IDENTIFIER or HAYBLEATER_BAD_LENGTH, in every state, what no bus can
+ * carry: the head is unchanged. A frame neither refused nor meant for the head changes nothing and is no refusal: every
+ * 29-bit and every remote frame, another node's, and in Initialising all.
+ */
+uint8_t haybleater_receive(haybleater_head *head, haybleater_received frame);
+
+/* A millisecond has passed. */
+void haybleater_tick(haybleater_head *head);
+
+/*
+ * The sensor gave a raw position, in steps of 5,000 nm. Refuses one above 1,048,575 with HAYBLEATER_BAD_SAMPLE: the head
+ * is unchanged, so the sample before still holds. A host to which such a number means "off the tape" calls haybleater_missing.
+ */
+uint8_t haybleater_sample(haybleater_head *head, uint32_t raw);
+
+/* The sensor gave no position. Position frames that wait are withdrawn. */
+void haybleater_missing(haybleater_head *head);
+
+/* A frame can be sent: answers the first that waits and takes it from the waiting line, or none exactly if none waits. */
+haybleater_due haybleater_slot(haybleater_head *head);
+
+/* The NMT state, one of the four codes above. */
+uint8_t haybleater_state(const haybleater_head *head);
+
+/* Whether the present reading is good: the last sample that was not refused was a raw position. */
+bool haybleater_good(const haybleater_head *head);
+
+/* The position that entry 6004h shows: known exactly while the reading is good. */
+haybleater_located haybleater_position(const haybleater_head *head);
+
+/* Whether a frame waits: whether the next slot answers one. */
+bool haybleater_waits(const haybleater_head *head);
+
+/* The layout that the archive was compiled for; host/layout.c shows that it has it. */
+#if defined(__cplusplus) && __cplusplus >= 201103L
+#define HAYBLEATER_CHECK(name, fact) static_assert(fact, #name)
+#elif !defined(__cplusplus) && defined(__STDC_VERSION__) && __STDC_VERSION__ >= 201112L
+#define HAYBLEATER_CHECK(name, fact) _Static_assert(fact, #name)
+#else
+#define HAYBLEATER_CHECK(name, fact) typedef char haybleater_check_##name[(fact) ? 1 : -1]
+#endif
+#define HAYBLEATER_CHECK_SHAPE(type, size, alignment)                              \
+    struct haybleater_aligned_##type {                                             \
+        char before;                                                               \
+        haybleater_##type value;                                                   \
+    };                                                                             \
+    HAYBLEATER_CHECK(size_of_##type, sizeof(haybleater_##type) == (size));         \
+    HAYBLEATER_CHECK(alignment_of_##type, offsetof(struct haybleater_aligned_##type, value) == (alignment))
+#define HAYBLEATER_CHECK_FIELD(type, field, offset) \
+    HAYBLEATER_CHECK(offset_of_##type##_##field, offsetof(haybleater_##type, field) == (offset))
+
+HAYBLEATER_CHECK(size_of_bool, sizeof(bool) == 1);
+
+HAYBLEATER_CHECK_SHAPE(head, 188, 4);
+
+HAYBLEATER_CHECK_SHAPE(identity, 16, 4);
+HAYBLEATER_CHECK_FIELD(identity, vendor, 0);
+HAYBLEATER_CHECK_FIELD(identity, product, 4);
+HAYBLEATER_CHECK_FIELD(identity, revision, 8);
+HAYBLEATER_CHECK_FIELD(identity, serial, 12);
+
+HAYBLEATER_CHECK_SHAPE(received, 16, 4);
+HAYBLEATER_CHECK_FIELD(received, identifier, 0);
+HAYBLEATER_CHECK_FIELD(received, extended, 4);
+HAYBLEATER_CHECK_FIELD(received, remote, 5);
+HAYBLEATER_CHECK_FIELD(received, length, 6);
+HAYBLEATER_CHECK_FIELD(received, bytes, 7);
+
+HAYBLEATER_CHECK_SHAPE(frame, 16, 4);
+HAYBLEATER_CHECK_FIELD(frame, identifier, 0);
+HAYBLEATER_CHECK_FIELD(frame, length, 4);
+HAYBLEATER_CHECK_FIELD(frame, bytes, 5);
+
+HAYBLEATER_CHECK_SHAPE(due, 20, 4);
+HAYBLEATER_CHECK_FIELD(due, waited, 0);
+HAYBLEATER_CHECK_FIELD(due, frame, 4);
+
+HAYBLEATER_CHECK_SHAPE(located, 8, 4);
+HAYBLEATER_CHECK_FIELD(located, known, 0);
+HAYBLEATER_CHECK_FIELD(located, position, 4);
+
+#undef HAYBLEATER_CHECK_FIELD
+#undef HAYBLEATER_CHECK_SHAPE
+#undef HAYBLEATER_CHECK
+
+#ifdef __cplusplus
+}
+#endif
+
+#endif
