@@ -1,0 +1,176 @@
+/*
+ * Shows that the archive has the layout of the header: what power-up writes and what no call touches, and that every field
+ * of the public structs arrives where the other side looks for it. Says what differs, if anything does, and exits 1.
+ */
+#include "haybleater.h"
+
+#include <stdio.h>
+#include <string.h>
+
+enum { CANARY = 64 };
+
+static struct {
+    uint8_t before[CANARY];
+    haybleater_head head;
+    uint8_t after[CANARY];
+} memory;
+
+static uint8_t fill;
+static bool failed;
+
+static const haybleater_identity identity = {
+    .vendor = 0x11121314, .product = 0x21222324, .revision = 0x31323334, .serial = 0x41424344};
+
+/* The bytes of a head that power-up need not write: padding. It writes all others. */
+static const struct {
+    size_t from, to;
+} padding[] = {{1, 4}, {21, 24}, {146, 148}, {185, 188}};
+
+#define READ_VENDOR {0x40, 0x18, 0x10, 1}
+#define REQUEST(...) {.identifier = 0x605, .length = 8, .bytes = {__VA_ARGS__}}
+#define SENT(id, size, ...) {.waited = true, .frame = {.identifier = (id), .length = (size), .bytes = {__VA_ARGS__}}}
+#define REPLY(...) SENT(0x585, 8, __VA_ARGS__)
+#define NOTHING {.waited = false}
+
+/* A frame for node 5 in Pre-operational, what receiving it answers and what the slot after it sends. */
+static const struct {
+    const char *what;
+    haybleater_received hears;
+    uint8_t refusal;
+    haybleater_due due;
+} rows[] = {
+    {"identity.vendor", REQUEST(0x40, 0x18, 0x10, 1), 0, REPLY(0x43, 0x18, 0x10, 1, 0x14, 0x13, 0x12, 0x11)},
+    {"identity.product", REQUEST(0x40, 0x18, 0x10, 2), 0, REPLY(0x43, 0x18, 0x10, 2, 0x24, 0x23, 0x22, 0x21)},
+    {"identity.revision", REQUEST(0x40, 0x18, 0x10, 3), 0, REPLY(0x43, 0x18, 0x10, 3, 0x34, 0x33, 0x32, 0x31)},
+    {"identity.serial", REQUEST(0x40, 0x18, 0x10, 4), 0, REPLY(0x43, 0x18, 0x10, 4, 0x44, 0x43, 0x42, 0x41)},
+    {"received.bytes: save", REQUEST(0x23, 0x10, 0x10, 1, 0x73, 0x61, 0x76, 0x65), 0, REPLY(0x60, 0x10, 0x10, 1)},
+    {"received.bytes[4]", REQUEST(0x23, 0x10, 0x10, 1, 0x72, 0x61, 0x76, 0x65), 0,
+     REPLY(0x80, 0x10, 0x10, 1, 0x20, 0x00, 0x00, 0x08)},
+    {"received.bytes[7]", REQUEST(0x23, 0x10, 0x10, 1, 0x73, 0x61, 0x76, 0x64), 0,
+     REPLY(0x80, 0x10, 0x10, 1, 0x20, 0x00, 0x00, 0x08)},
+    {"received.identifier", {.identifier = 0x604, .length = 8, .bytes = READ_VENDOR}, 0, NOTHING},
+    {"received.identifier of 11 bits", {.identifier = 0x800, .length = 8}, HAYBLEATER_BAD_IDENTIFIER, NOTHING},
+    {"received.identifier of 29 bits", {.identifier = 0x20000000, .extended = true}, HAYBLEATER_BAD_IDENTIFIER, NOTHING},
+    {"received.extended", {.identifier = 0x800, .extended = true}, 0, NOTHING},
+    {"received.extended of a request", {.identifier = 0x605, .extended = true, .length = 8, .bytes = READ_VENDOR}, 0, NOTHING},
+    {"received.remote", {.identifier = 0x605, .remote = true, .length = 8, .bytes = READ_VENDOR}, 0, NOTHING},
+    {"received.remote above 7FFh", {.identifier = 0x800, .remote = true}, HAYBLEATER_BAD_IDENTIFIER, NOTHING},
+    {"received.length 7", {.identifier = 0x605, .length = 7, .bytes = READ_VENDOR}, 0, NOTHING},
+    {"received.length 9", {.identifier = 0x605, .length = 9, .bytes = READ_VENDOR}, HAYBLEATER_BAD_LENGTH, NOTHING},
+};
+
+static void expect(bool holds, const char *rule, const char *when)
+{
+    if (holds)
+        return;
+    printf("differs, in memory filled with %02Xh: %s: %s\n", (unsigned)fill, when, rule);
+    failed = true;
+}
+
+static void expect_canaries(const char *when)
+{
+    bool whole = true;
+    for (size_t i = 0; i < CANARY; i++)
+        whole = whole && memory.before[i] == fill && memory.after[i] == fill;
+    expect(whole, "nothing is written outside of the head", when);
+}
+
+static void expect_refusal(uint8_t got, uint8_t refusal, const char *when)
+{
+    expect(got == refusal, "refusal", when);
+    expect_canaries(when);
+}
+
+static void expect_slot(haybleater_due due, const char *when)
+{
+    haybleater_due got = haybleater_slot(&memory.head);
+    expect(got.waited == due.waited, "due.waited", when);
+    expect(got.frame.identifier == due.frame.identifier, "frame.identifier", when);
+    expect(got.frame.length == due.frame.length, "frame.length", when);
+    expect(memcmp(got.frame.bytes, due.frame.bytes, sizeof due.frame.bytes) == 0, "frame.bytes", when);
+    expect_canaries(when);
+}
+
+static void expect_answers(uint8_t state, bool good, bool waits, haybleater_located at, const char *when)
+{
+    haybleater_head before = memory.head;
+    haybleater_located got = haybleater_position(&memory.head);
+    expect(haybleater_state(&memory.head) == state, "state", when);
+    expect(haybleater_good(&memory.head) == good, "good", when);
+    expect(haybleater_waits(&memory.head) == waits, "waits", when);
+    expect(got.known == at.known, "located.known", when);
+    expect(got.position == at.position, "located.position", when);
+    expect(memcmp(&before, &memory.head, sizeof before) == 0, "a question alters nothing", when);
+    expect_canaries(when);
+}
+
+static void power_up_over(uint8_t byte)
+{
+    fill = byte;
+    memset(&memory, fill, sizeof memory);
+    expect_refusal(haybleater_power_up(&memory.head, 5, identity), HAYBLEATER_NO_REFUSAL, "power-up of node 5");
+}
+
+static bool is_padding(size_t at)
+{
+    for (size_t i = 0; i < sizeof padding / sizeof padding[0]; i++) {
+        if (padding[i].from <= at && at < padding[i].to)
+            return true;
+    }
+    return false;
+}
+
+static void check_power_up(void)
+{
+    uint8_t over_00[sizeof(haybleater_head)], over_ff[sizeof(haybleater_head)];
+    char which[32];
+    power_up_over(0x00);
+    memcpy(over_00, &memory.head, sizeof over_00);
+    power_up_over(0xFF);
+    memcpy(over_ff, &memory.head, sizeof over_ff);
+    for (size_t i = 0; i < sizeof over_00; i++) {
+        snprintf(which, sizeof which, "byte %u of the head", (unsigned)i);
+        expect(is_padding(i) || over_00[i] == over_ff[i], "power-up writes it", which);
+    }
+}
+
+static void check_frames(void)
+{
+    for (size_t i = 0; i < sizeof rows / sizeof rows[0]; i++) {
+        expect_refusal(haybleater_receive(&memory.head, rows[i].hears), rows[i].refusal, rows[i].what);
+        expect_slot(rows[i].due, rows[i].what);
+    }
+}
+
+static void check_calls(void)
+{
+    const haybleater_located nowhere = {.known = false}, here = {.known = true, .position = 69637};
+    expect_answers(HAYBLEATER_INITIALISING, false, true, nowhere, "after power-up");
+    expect_slot((haybleater_due)SENT(0x705, 1, 0x00), "boot-up frame");
+    expect_slot((haybleater_due)SENT(0x085, 8, 0x00, 0x50, 0x01), "emergency");
+    expect_slot((haybleater_due)NOTHING, "slot when nothing waits");
+    expect_answers(HAYBLEATER_PRE_OPERATIONAL, false, false, nowhere, "before the first sample");
+    expect_refusal(haybleater_sample(&memory.head, 69637), HAYBLEATER_NO_REFUSAL, "sample");
+    expect_refusal(haybleater_sample(&memory.head, 1048576), HAYBLEATER_BAD_SAMPLE, "sample out of range");
+    expect_answers(HAYBLEATER_PRE_OPERATIONAL, true, true, here, "after a sample");
+    expect_slot((haybleater_due)SENT(0x085, 8, 0x00), "emergency of a good reading");
+    check_frames();
+    haybleater_tick(&memory.head);
+    expect_answers(HAYBLEATER_PRE_OPERATIONAL, true, false, here, "after a tick");
+    haybleater_missing(&memory.head);
+    expect_answers(HAYBLEATER_PRE_OPERATIONAL, false, true, nowhere, "after a missing sample");
+    expect_refusal(haybleater_power_up(&memory.head, 128, identity), HAYBLEATER_BAD_NODE, "power-up of node 128");
+    expect_slot((haybleater_due)SENT(0x701, 1, 0x00), "boot-up frame of a refused power-up");
+}
+
+int main(void)
+{
+    check_power_up();
+    power_up_over(0x00);
+    check_calls();
+    power_up_over(0xFF);
+    check_calls();
+    if (!failed)
+        printf("layout as in the header\n");
+    return failed;
+}
