@@ -1,0 +1,127 @@
+/*
+ * Serves a head to the comparison with the reference: reads calls of 24 bytes from standard input and writes an answer of
+ * 24 bytes for each to standard output, until the end of input. Numbers are low byte first, unused bytes 0.
+ *
+ * Call: [0] which
+ *   P  power-up: [1] node, [4..8] vendor, [8..12] product, [12..16] revision, [16..20] serial
+ *   F  frame received: [1] extended, [2] remote, [3] length, [4..8] identifier, [8..16] bytes
+ *   T  tick     S  sample: [4..8] raw     M  missing     ?  slot
+ *   K  keep a copy of the head     R  take the kept copy back
+ * Answer: [0] the refusal of P, F, S, or of ? whether a frame was sent; [1] its length, [4..8] its identifier, [8..16] its
+ *   bytes; and after the call [2] the state, [3] bit 0 whether the reading is good, bit 1 whether a frame waits,
+ *   [16..20] the position, 0 if there is none.
+ */
+#define _POSIX_C_SOURCE 200809L
+#include "haybleater.h"
+
+#include <stdio.h>
+#include <stdlib.h>
+#include <string.h>
+#include <unistd.h>
+
+enum { RECORD = 24, RECORDS = 4096 };
+
+static haybleater_head present, kept;
+
+static void fail(const char *what)
+{
+    fprintf(stderr, "drive: %s\n", what);
+    exit(2);
+}
+
+static uint32_t number_at(const uint8_t *at)
+{
+    return (uint32_t)at[0] | (uint32_t)at[1] << 8 | (uint32_t)at[2] << 16 | (uint32_t)at[3] << 24;
+}
+
+static void put_number(uint8_t *at, uint32_t number)
+{
+    for (unsigned i = 0; i < 4; i++)
+        at[i] = (uint8_t)(number >> 8 * i);
+}
+
+static uint8_t power_up(const uint8_t *call)
+{
+    haybleater_identity identity = {.vendor = number_at(call + 4),
+                                    .product = number_at(call + 8),
+                                    .revision = number_at(call + 12),
+                                    .serial = number_at(call + 16)};
+    return haybleater_power_up(&present, call[1], identity);
+}
+
+static uint8_t receive(const uint8_t *call)
+{
+    haybleater_received frame = {.identifier = number_at(call + 4),
+                                 .extended = call[1] != 0,
+                                 .remote = call[2] != 0,
+                                 .length = call[3]};
+    memcpy(frame.bytes, call + 8, sizeof frame.bytes);
+    return haybleater_receive(&present, frame);
+}
+
+static void slot(uint8_t *answer)
+{
+    haybleater_due due = haybleater_slot(&present);
+    answer[0] = due.waited;
+    answer[1] = due.frame.length;
+    put_number(answer + 4, due.frame.identifier);
+    memcpy(answer + 8, due.frame.bytes, sizeof due.frame.bytes);
+}
+
+static void do_call(const uint8_t *call, uint8_t *answer)
+{
+    switch (call[0]) {
+    case 'P': answer[0] = power_up(call); break;
+    case 'F': answer[0] = receive(call); break;
+    case 'T': haybleater_tick(&present); break;
+    case 'S': answer[0] = haybleater_sample(&present, number_at(call + 4)); break;
+    case 'M': haybleater_missing(&present); break;
+    case '?': slot(answer); break;
+    case 'K': kept = present; break;
+    case 'R': present = kept; break;
+    default: fail("no such call");
+    }
+}
+
+static void answer_call(const uint8_t *call, uint8_t *answer)
+{
+    memset(answer, 0, RECORD);
+    do_call(call, answer);
+    answer[2] = haybleater_state(&present);
+    answer[3] = (uint8_t)(haybleater_good(&present) | haybleater_waits(&present) << 1);
+    put_number(answer + 16, haybleater_position(&present).position);
+}
+
+static void write_all(const uint8_t *from, size_t size)
+{
+    while (size > 0) {
+        ssize_t written = write(STDOUT_FILENO, from, size);
+        if (written < 0)
+            fail("cannot write");
+        from += written;
+        size -= (size_t)written;
+    }
+}
+
+int main(void)
+{
+    static uint8_t calls[RECORDS * RECORD], answers[RECORDS * RECORD];
+    size_t held = 0;
+    ssize_t got;
+    haybleater_power_up(&present, 1, (haybleater_identity){.vendor = 0});
+    kept = present;
+    while ((got = read(STDIN_FILENO, calls + held, sizeof calls - held)) > 0) {
+        held += (size_t)got;
+        size_t whole = held - held % RECORD;
+        for (size_t at = 0; at < whole; at += RECORD)
+            answer_call(calls + at, answers + at);
+        write_all(answers, whole);
+        held -= whole;
+        memmove(calls, calls + whole, held);
+    }
+    if (got < 0)
+        fail("cannot read");
+    if (held > 0)
+        fail("the input ends within a call");
+    return 0;
+}
