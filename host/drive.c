@@ -87,9 +87,13 @@ static void answer_call(const uint8_t *call, uint8_t *answer)
 {
     memset(answer, 0, RECORD);
     do_call(call, answer);
+    bool good = haybleater_good(&present);
+    haybleater_located here = haybleater_position(&present);
+    if (here.known != good || (!here.known && here.position != 0))
+        fail("a position is known exactly while the reading is good, and 0 otherwise");
     answer[2] = haybleater_state(&present);
-    answer[3] = (uint8_t)(haybleater_good(&present) | haybleater_waits(&present) << 1);
-    put_number(answer + 16, haybleater_position(&present).position);
+    answer[3] = (uint8_t)(good | haybleater_waits(&present) << 1);
+    put_number(answer + 16, here.position);
 }
 
 static void write_all(const uint8_t *from, size_t size)
