@@ -8,19 +8,19 @@
 
 enum { END_MS = 130, LOST_FROM_MS = 45, LOST_UNTIL_MS = 95 };
 
-/* What the master sends, and when. */
+/* What the master sends, and when. Of the requests, bytes that are not given are 0. */
 static const struct {
     uint32_t at_ms;
     const char *what;
     haybleater_received frame;
 } master[] = {
-    {1, "heartbeat each 50 ms (1017h)", {.identifier = 0x601, .length = 8, .bytes = {0x2B, 0x17, 0x10, 0x00, 50, 0, 0, 0}}},
-    {2, "TPDO1 each 20 ms (1800-5)", {.identifier = 0x601, .length = 8, .bytes = {0x2B, 0x00, 0x18, 0x05, 20, 0, 0, 0}}},
+    {1, "heartbeat each 50 ms (1017h)", {.identifier = 0x601, .length = 8, .bytes = {0x2B, 0x17, 0x10, 0x00, 50}}},
+    {2, "TPDO1 each 20 ms (1800-5)", {.identifier = 0x601, .length = 8, .bytes = {0x2B, 0x00, 0x18, 0x05, 20}}},
     {3, "start: Operational", {.identifier = 0x000, .length = 2, .bytes = {0x01, 0x01}}},
     {30, "SYNC", {.identifier = 0x080, .length = 0}},
-    {60, "read the position (6004h)", {.identifier = 0x601, .length = 8, .bytes = {0x40, 0x04, 0x60, 0x00, 0, 0, 0, 0}}},
+    {60, "read the position (6004h)", {.identifier = 0x601, .length = 8, .bytes = {0x40, 0x04, 0x60, 0x00}}},
     {70, "SYNC", {.identifier = 0x080, .length = 0}},
-    {110, "read the position (6004h)", {.identifier = 0x601, .length = 8, .bytes = {0x40, 0x04, 0x60, 0x00, 0, 0, 0, 0}}},
+    {110, "read the position (6004h)", {.identifier = 0x601, .length = 8, .bytes = {0x40, 0x04, 0x60, 0x00}}},
     {120, "SYNC", {.identifier = 0x080, .length = 0}},
 };
 
