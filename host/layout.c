@@ -52,7 +52,7 @@ static const struct {
     {"received.identifier of 11 bits", {.identifier = 0x800, .length = 8}, HAYBLEATER_BAD_IDENTIFIER, NOTHING},
     {"received.identifier of 29 bits", {.identifier = 0x20000000, .extended = true}, HAYBLEATER_BAD_IDENTIFIER, NOTHING},
     {"received.extended", {.identifier = 0x800, .extended = true}, 0, NOTHING},
-    {"received.extended of a request", {.identifier = 0x605, .extended = true, .length = 8, .bytes = READ_VENDOR}, 0, NOTHING},
+    {"received.extended request", {.identifier = 0x605, .extended = true, .length = 8, .bytes = READ_VENDOR}, 0, NOTHING},
     {"received.remote", {.identifier = 0x605, .remote = true, .length = 8, .bytes = READ_VENDOR}, 0, NOTHING},
     {"received.remote above 7FFh", {.identifier = 0x800, .remote = true}, HAYBLEATER_BAD_IDENTIFIER, NOTHING},
     {"received.length 7", {.identifier = 0x605, .length = 7, .bytes = READ_VENDOR}, 0, NOTHING},
