@@ -1,0 +1,394 @@
+//! What a run has reached. Each item foreseen must be met, and no other.
+
+use std::collections::BTreeMap;
+use std::fmt;
+
+use reference::wire::{Answer, Call, Outcome};
+use reference::{abort, Frame, Head, Kind, Received, State};
+
+use crate::dictionary::{peek, ENTRIES};
+
+/// Group, what, how.
+type Item = (&'static str, &'static str, &'static str);
+
+const STATES: [(u8, &str); 4] = [
+    (State::Initialising as u8, "Initialising"),
+    (State::Stopped as u8, "Stopped"),
+    (State::Operational as u8, "Operational"),
+    (State::PreOperational as u8, "Pre-operational"),
+];
+
+const ABORTS: [(u32, &str); 10] = [
+    (abort::COMMAND, "0504 0001h"),
+    (abort::READ_ONLY, "0601 0002h"),
+    (abort::NO_INDEX, "0602 0000h"),
+    (abort::TOO_LONG, "0607 0012h"),
+    (abort::TOO_SHORT, "0607 0013h"),
+    (abort::NO_SUB_INDEX, "0609 0011h"),
+    (abort::VALUE, "0609 0030h"),
+    (abort::SIGNATURE, "0800 0020h"),
+    (abort::STATE, "0800 0022h"),
+    (abort::BLANK, "0800 0024h"),
+];
+
+const KINDS: [(Kind, &str); 5] = [
+    (Kind::Emergency, "emergency"),
+    (Kind::Reply, "reply"),
+    (Kind::Heartbeat, "heartbeat"),
+    (Kind::Tpdo1, "TPDO1"),
+    (Kind::Tpdo2, "TPDO2"),
+];
+
+const REFUSALS: [&str; 5] = ["", "1", "2", "3", "4"];
+const LENGTHS: [&str; 6] = ["0", "1", "2", "3", "4", "5"];
+
+const POWER_UP: &str = "by power-up";
+const TICK: &str = "by tick";
+const SAMPLE: &str = "by sample";
+const NO_SAMPLE: &str = "by missing sample";
+const SLOT: &str = "by slot";
+const COPY: &str = "by copy";
+const SYNC: &str = "by SYNC";
+const REQUEST: &str = "by request";
+const RESET: &str = "by reset";
+const TO_STOPPED: &str = "by entry to Stopped";
+const TO_OPERATIONAL: &str = "by entry to Operational";
+const TO_PRE_OPERATIONAL: &str = "by entry to Pre-operational";
+
+const JOINS: [(&str, &[&str]); 5] = [
+    (
+        "emergency",
+        &[
+            SAMPLE,
+            NO_SAMPLE,
+            TICK,
+            SLOT,
+            REQUEST,
+            TO_OPERATIONAL,
+            TO_PRE_OPERATIONAL,
+        ],
+    ),
+    ("reply", &[REQUEST]),
+    ("heartbeat", &[TICK]),
+    ("TPDO1", &[TICK, SYNC, TO_OPERATIONAL]),
+    ("TPDO2", &[TICK, SYNC, TO_OPERATIONAL]),
+];
+
+const WITHDRAWALS: [(&str, &[&str]); 5] = [
+    (
+        "emergency",
+        &[RESET, TO_STOPPED, SAMPLE, NO_SAMPLE, REQUEST],
+    ),
+    ("reply", &[RESET, TO_STOPPED]),
+    ("heartbeat", &[RESET, REQUEST]),
+    (
+        "TPDO1",
+        &[RESET, TO_STOPPED, TO_PRE_OPERATIONAL, NO_SAMPLE, REQUEST],
+    ),
+    (
+        "TPDO2",
+        &[RESET, TO_STOPPED, TO_PRE_OPERATIONAL, NO_SAMPLE, REQUEST],
+    ),
+];
+
+const SINGLE: [Item; 27] = [
+    ("sent", "boot-up", ""),
+    ("sent", "emergency", "missing"),
+    ("sent", "emergency", "good"),
+    ("sent", "heartbeat", "Stopped"),
+    ("sent", "heartbeat", "Operational"),
+    ("sent", "heartbeat", "Pre-operational"),
+    ("sent", "reply", "read 1 byte"),
+    ("sent", "reply", "read 2 bytes"),
+    ("sent", "reply", "read 4 bytes"),
+    ("sent", "reply", "write"),
+    ("sent", "reply", "abort"),
+    ("sent", "TPDO1", ""),
+    ("sent", "TPDO2", ""),
+    ("sent", "nothing", ""),
+    ("inhibit", "started", ""),
+    ("inhibit", "ran out", ""),
+    ("inhibit", "ran out", "of 6555 ticks"),
+    ("heartbeat", "joined", "after 65535 ms"),
+    ("event timer", "joined", "after 65535 ms"),
+    ("passed over", "tick", "reading missing"),
+    ("passed over", "SYNC", "reading missing"),
+    ("SYNC type", "1", ""),
+    ("SYNC type", "2..239", ""),
+    ("SYNC type", "240", ""),
+    ("reset", "81h", ""),
+    ("reset", "82h", ""),
+    ("request", "while a reply waits", ""),
+];
+
+pub struct Coverage {
+    counts: BTreeMap<Item, u64>,
+    unforeseen: Vec<Item>,
+    nodes: [bool; 128],
+}
+
+impl Coverage {
+    pub fn new() -> Coverage {
+        let mut items: Vec<Item> = SINGLE.to_vec();
+        for (_, state) in STATES {
+            items.extend([("state", state, ""), ("request", "in state", state)]);
+        }
+        items.extend(transitions());
+        items.extend(REFUSALS[1..].iter().map(|number| ("refusal", *number, "")));
+        items.extend(ABORTS.map(|(_, name)| ("abort", name, "")));
+        items.extend(LENGTHS.map(|length| ("line", length, "")));
+        for entry in &ENTRIES {
+            items.push(("entry read", entry.name, ""));
+            if entry.writable {
+                items.push(("entry written", entry.name, ""));
+            }
+        }
+        items.extend(crossed("joined", &JOINS));
+        items.extend(crossed("withdrawn", &WITHDRAWALS));
+        Coverage {
+            counts: items.into_iter().map(|item| (item, 0)).collect(),
+            unforeseen: Vec::new(),
+            nodes: [false; 128],
+        }
+    }
+
+    fn count(&mut self, item: Item) {
+        match self.counts.get_mut(&item) {
+            Some(count) => *count += 1,
+            None => self.unforeseen.push(item),
+        }
+    }
+
+    /// One call of a run, with the head before and after it.
+    pub fn observe(&mut self, before: &Head, call: &Call, answer: &Answer, after: &Head) {
+        self.count(("state", state_name(answer.view.state), ""));
+        self.count(("line", LENGTHS[after.count_waiting()], ""));
+        match (call, answer.outcome) {
+            (Call::PowerUp(..), _) => self.nodes[usize::from(after.node())] = true,
+            (Call::Receive(frame), _) => self.observe_frame(before, frame, after),
+            (Call::Tick, _) => self.observe_tick(before, after),
+            (_, Outcome::Sent(frame)) => self.observe_sent(before, &frame, after),
+            (_, Outcome::Silent) => self.count(("sent", "nothing", "")),
+            _ => {}
+        }
+        if let Outcome::Number(number @ 1..) = answer.outcome {
+            self.count(("refusal", REFUSALS[usize::from(number)], ""));
+        }
+        self.observe_line(before, call, after);
+    }
+
+    fn observe_line(&mut self, before: &Head, call: &Call, after: &Head) {
+        let cause = cause(before, call, after);
+        if cause == POWER_UP || cause == COPY {
+            return;
+        }
+        for (kind, name) in KINDS {
+            match (before.waits(kind), after.waits(kind)) {
+                (false, true) => self.count(("joined", name, cause)),
+                (true, false) if cause != SLOT => self.count(("withdrawn", name, cause)),
+                _ => {}
+            }
+        }
+    }
+
+    fn observe_frame(&mut self, before: &Head, frame: &Received, after: &Head) {
+        let (from, to) = (
+            state_name(before.nmt_state()),
+            state_name(after.nmt_state()),
+        );
+        if is_request(before, frame) {
+            self.count(("request", "in state", from));
+            if before.waits(Kind::Reply) {
+                self.count(("request", "while a reply waits", ""));
+            }
+        }
+        if to == "Initialising" && from != to {
+            let which = if frame.bytes[0] == 0x81 { "81h" } else { "82h" };
+            self.count(("reset", which, ""));
+        } else if from != to {
+            self.count(("entered", to, from));
+        }
+        if frame.identifier == 0x080 && from == "Operational" {
+            self.observe_sync(before, frame, after);
+        }
+    }
+
+    fn observe_sync(&mut self, before: &Head, frame: &Received, after: &Head) {
+        let passes = |head: &mut Head| {
+            head.receive(frame);
+        };
+        if is_passed_over(before, passes) {
+            self.count(("passed over", "SYNC", "reading missing"));
+        }
+        for (kind, index) in [(Kind::Tpdo1, 0x1800), (Kind::Tpdo2, 0x1801)] {
+            if joined(before, after, kind) {
+                let name = match peek(after, index, 2) {
+                    Some(1) => "1",
+                    Some(240) => "240",
+                    _ => "2..239",
+                };
+                self.count(("SYNC type", name, ""));
+            }
+        }
+    }
+
+    fn observe_tick(&mut self, before: &Head, after: &Head) {
+        if before.is_inhibited() && !after.is_inhibited() {
+            self.count(("inhibit", "ran out", ""));
+            if peek(after, 0x1015, 0) == Some(65_535) {
+                self.count(("inhibit", "ran out", "of 6555 ticks"));
+            }
+        }
+        if joined(before, after, Kind::Heartbeat) && peek(after, 0x1017, 0) == Some(65_535) {
+            self.count(("heartbeat", "joined", "after 65535 ms"));
+        }
+        if joined(before, after, Kind::Tpdo1) && peek(after, 0x1800, 5) == Some(65_535) {
+            self.count(("event timer", "joined", "after 65535 ms"));
+        }
+        if is_passed_over(before, Head::tick) {
+            self.count(("passed over", "tick", "reading missing"));
+        }
+    }
+
+    fn observe_sent(&mut self, before: &Head, frame: &Frame, after: &Head) {
+        let how = match before.first_waiting() {
+            None => ("boot-up", ""),
+            Some(Kind::Emergency) if frame.bytes[1] == 0x50 => ("emergency", "missing"),
+            Some(Kind::Emergency) => ("emergency", "good"),
+            Some(Kind::Heartbeat) => ("heartbeat", state_name(frame.bytes[0])),
+            Some(Kind::Reply) => ("reply", self.observe_reply(frame)),
+            Some(Kind::Tpdo1) => ("TPDO1", ""),
+            Some(Kind::Tpdo2) => ("TPDO2", ""),
+        };
+        self.count(("sent", how.0, how.1));
+        if after.is_inhibited() && how.0 == "emergency" {
+            self.count(("inhibit", "started", ""));
+        }
+    }
+
+    fn observe_reply(&mut self, frame: &Frame) -> &'static str {
+        let [first, low, high, sub, data @ ..] = frame.bytes;
+        let index = u16::from_le_bytes([low, high]);
+        let found = ENTRIES
+            .iter()
+            .find(|entry| (entry.index, entry.sub) == (index, sub));
+        let name = found.map_or("none", |entry| entry.name);
+        match first {
+            0x80 => {
+                let code = u32::from_le_bytes(data);
+                let known = ABORTS.iter().find(|(known, _)| *known == code);
+                self.count(("abort", known.map_or("unknown", |(_, name)| *name), ""));
+                return "abort";
+            }
+            0x60 => self.count(("entry written", name, "")),
+            _ => self.count(("entry read", name, "")),
+        }
+        match first {
+            0x60 => "write",
+            0x4F => "read 1 byte",
+            0x4B => "read 2 bytes",
+            _ => "read 4 bytes",
+        }
+    }
+}
+
+/// What is missing or was not foreseen; empty if all is well.
+impl Coverage {
+    pub fn complaints(&self) -> Vec<String> {
+        let mut complaints = Vec::new();
+        for ((group, what, how), count) in &self.counts {
+            if *count == 0 {
+                complaints.push(format!("never met: {group} {what} {how}"));
+            }
+        }
+        for (group, what, how) in &self.unforeseen {
+            complaints.push(format!("not foreseen: {group} {what} {how}"));
+        }
+        for (node, met) in self.nodes.iter().enumerate().skip(1) {
+            if !met {
+                complaints.push(format!("never met: node {node}"));
+            }
+        }
+        complaints
+    }
+}
+
+impl fmt::Display for Coverage {
+    fn fmt(&self, out: &mut fmt::Formatter) -> fmt::Result {
+        let mut present = "";
+        for ((group, what, how), count) in &self.counts {
+            if *group != present {
+                write!(out, "\n  {group}:")?;
+                present = group;
+            }
+            let space = if how.is_empty() { "" } else { " " };
+            write!(out, " [{what}{space}{how}] {count}")?;
+        }
+        let nodes = self.nodes.iter().filter(|met| **met).count();
+        write!(out, "\n  nodes: {nodes}")
+    }
+}
+
+fn transitions() -> Vec<Item> {
+    let mut items = Vec::new();
+    for to in ["Stopped", "Operational", "Pre-operational"] {
+        for from in ["Stopped", "Operational", "Pre-operational"] {
+            if from != to {
+                items.push(("entered", to, from));
+            }
+        }
+    }
+    items
+}
+
+fn crossed(group: &'static str, table: &[(&'static str, &[&'static str])]) -> Vec<Item> {
+    let mut items = Vec::new();
+    for (what, causes) in table {
+        items.extend(causes.iter().map(|cause| (group, *what, *cause)));
+    }
+    items
+}
+
+fn state_name(code: u8) -> &'static str {
+    let found = STATES.iter().find(|(known, _)| *known == code);
+    found.map_or("unknown", |(_, name)| name)
+}
+
+fn is_request(head: &Head, frame: &Received) -> bool {
+    let plain = !frame.extended && !frame.remote;
+    plain && frame.length == 8 && frame.identifier == 0x600 + u32::from(head.node())
+}
+
+fn cause(before: &Head, call: &Call, after: &Head) -> &'static str {
+    match call {
+        Call::PowerUp(..) => POWER_UP,
+        Call::Tick => TICK,
+        Call::Sample(_) => SAMPLE,
+        Call::Missing => NO_SAMPLE,
+        Call::Slot => SLOT,
+        Call::Keep | Call::Restore => COPY,
+        Call::Receive(frame) if frame.identifier == 0x080 => SYNC,
+        Call::Receive(_) if before.nmt_state() == after.nmt_state() => REQUEST,
+        Call::Receive(_) => match state_name(after.nmt_state()) {
+            "Initialising" => RESET,
+            "Stopped" => TO_STOPPED,
+            "Operational" => TO_OPERATIONAL,
+            _ => TO_PRE_OPERATIONAL,
+        },
+    }
+}
+
+fn joined(before: &Head, after: &Head, kind: Kind) -> bool {
+    !before.waits(kind) && after.waits(kind)
+}
+
+/// Whether a PDO would have joined had the reading been good.
+fn is_passed_over(before: &Head, call: impl Fn(&mut Head)) -> bool {
+    if before.reading_good() || before.nmt_state() != State::Operational as u8 {
+        return false;
+    }
+    let mut copy = *before;
+    copy.sample(0);
+    call(&mut copy);
+    copy.waits(Kind::Tpdo1) || copy.waits(Kind::Tpdo2)
+}

@@ -1,0 +1,21 @@
+//! A CANopen slave for a linear encoder: object dictionary, NMT states,
+//! expedited SDO server, two transmit PDOs, SYNC, heartbeat, emergency.
+//!
+//! The host owns a [`Head`] and calls it: a frame came in, a millisecond
+//! passed, a sample was taken, the bus has a free slot.
+
+#![no_std]
+#![forbid(unsafe_code)]
+
+mod entry;
+mod frame;
+mod head;
+mod line;
+mod sdo;
+mod settings;
+pub mod wire;
+
+pub use frame::{refusal, Frame, Identity, Received};
+pub use head::{Head, State};
+pub use line::Kind;
+pub use sdo::abort;
