@@ -1,0 +1,26 @@
+//! What both heads offer to the benchmark.
+
+use reference::{Frame, Identity, Received};
+
+pub const NODE: u8 = 1;
+pub const IDENTITY: Identity = Identity {
+    vendor: 1,
+    product: 2,
+    revision: 3,
+    serial: 4,
+};
+
+pub trait Head: Copy {
+    /// A received frame in the form in which this head takes it.
+    type Received: From<Received>;
+    /// What a slot answers.
+    type Due: Into<Option<Frame>>;
+
+    /// A head of [`NODE`] and [`IDENTITY`].
+    fn power_up() -> Self;
+    fn receive(&mut self, frame: &Self::Received) -> u8;
+    fn tick(&mut self);
+    fn sample(&mut self, raw: u32) -> u8;
+    fn missing(&mut self);
+    fn slot(&mut self) -> Self::Due;
+}
