@@ -1,7 +1,10 @@
 pub mod Fill2
+pub mod Guarded0
+pub mod Guarded1
 pub mod Look0
 pub mod Questions
 pub mod Rows
 pub mod Thin
 pub mod Thin0
 pub mod Thin1
+pub mod Unmoved

@@ -12,6 +12,7 @@ use can::Received;
 use entries::Identity;
 use parts::Head;
 
+mod idle;
 mod question;
 mod step;
 
@@ -44,6 +45,9 @@ pub extern "C" fn haybleater_receive(head: &mut Head, frame: Received) -> u8
     requires { ⌜ Valid (now head) ⌝ }
     ensures { λ n. ⌜ Receives (now (head .entry)) frame (answered n (now (head .exit))) ⌝ }
 {
+    if idle::passes(*head, frame) {
+        return can::refusal(frame);
+    }
     let answer = head::receive(*head, frame);
     *head = answer.head;
     answer.refusal
@@ -80,6 +84,9 @@ pub extern "C" fn haybleater_slot(head: &mut Head) -> Due
     requires { ⌜ Valid (now head) ⌝ }
     ensures { λ d. ⌜ Slots (now (head .entry)) (sentAs d (now (head .exit))) ⌝ }
 {
+    if idle::empty(*head) {
+        return idle::none();
+    }
     let sent = step::slot(*head);
     *head = sent.head;
     sent.due

@@ -1,0 +1,98 @@
+-- A call that leaves the head alone answers as the call by value does.
+use Prim.Native.Nat.{ℕ, _+_}
+use lib.Dec.{eqb, T as Holds}
+use mathlib.Core.Path.{_≡_, refl, sym, ap, _∙_}
+use mathlib.Core.Bool.{Bool, true, false, not, _||_, and-not-self}
+use mathlib.Core.List.{[]}
+use mathlib.Core.Option.{none}
+use borrow.Author.Tests.{eqb-true, eqb-false}
+use Rattle.cases.specs.Padded.{pad}
+use Rattle.cases.proofs.Cases.{test, true-false, neither}
+use Rattle.can.specs.declared.Received.{Received}
+use Rattle.can.specs.Frame.{refusalOf}
+use Rattle.waiting.specs.Line as line
+use Rattle.waiting.specs.Line.{places, has, first}
+use Rattle.waiting.specs.Calls.{afterIn}
+use Rattle.waiting.specs.Places.{waiting}
+use Rattle.waiting.proofs.Holds.{holds-idle}
+use Rattle.parts.specs.declared.Head.{Head}
+use Rattle.promises.specs.States.{isInitialising, node}
+use Rattle.promises.specs.WaitingLine.{emergency, may}
+use Rattle.promises.specs.Acts.{Act, nothing, idle, frameBy, emergencyOnly, goes, comes, settledTo, act}
+use Rattle.promises.specs.Calls.{receive, slot, heard, meant, sentBy, step, answered, sentWith, slotted}
+use Rattle.promises.specs.Valid.{Valid, waits}
+use Rattle.promises.specs.Promised.{Receives, Slots}
+use Rattle.head.proofs.CommandTests.{none-acts}
+use Rattle.head.proofs.SlotTests.{slot-waits}
+use Rattle.lent.specs.declared.Due.{Due}
+use Rattle.lent.specs.Questions.{anyWaits}
+use Rattle.lent.specs.Steps.{sentAs}
+use Rattle.lent.specs.Unmoved.{addressed, passesBy, noDue}
+
+-- nothing waits, so nothing leaves, and the emergency, which alone could join, may not
+module _ (h : Head) (v : Valid h) (e : first (h .line) ≡ 0) where
+  empty : waiting (h .line) ≡ []
+  empty = holds-idle (v .line) e
+
+  no-emergency : may (h .core) emergency ≡ false
+  no-emergency =
+      test (may (h .core) emergency)
+      (λ m. absurd (true-false (sym (v .urgent m) ∙ ap (has line.emergency) empty)))
+      (λ m. m)
+
+  none-comes : comes emergencyOnly (h .core) ≡ []
+  none-comes = rw no-emergency
+
+  stays : afterIn true (goes (h .core) (h .core)) (comes emergencyOnly (h .core)) (h .line) ≡ h .line
+  stays =
+      let none-goes : goes (h .core) (h .core) ≡ [] = simp and-not-self in
+      let shape : h .line ≡ pad places [] = v .line .shape ∙ ap (pad places) empty in
+      rw (none-goes, none-comes, shape)
+
+  idles : act true h idle ≡ h
+  unfolding act settledTo
+  idles = ap {B = Head} (λ l. record { core = h .core; line = l }) stays
+
+  idle-slot : isInitialising (h .core) ≡ false → slotted h ≡ sentAs noDue h
+  idle-slot i =
+      let m : meant h slot ≡ idle = rw (i, e) in
+      ap (λ (a : Act). sentWith (frameBy (h .core) a) (act true h a)) m ∙ ap (sentWith none) idles
+
+not-true : (b : Bool) → not b ≡ true → b ≡ false
+not-true true x = true-false (sym x)
+not-true false x = refl
+
+not-false : (b : Bool) → not b ≡ false → b ≡ true
+not-false true x = refl
+not-false false x = true-false x
+
+holds-true : (b : Bool) → Holds b → b ≡ true
+holds-true true x = refl
+
+pub slot-rests : (h : Head) → Valid h → {y : Bool} {d : Due} → Holds y → y ≡ not (anyWaits h) → d ≡ noDue → Slots h (sentAs d h)
+slot-rests h v {y} t e d =
+    let n = neither _ _ (sym (slot-waits (h .core) (first (h .line))) ∙ not-true _ (sym e ∙ holds-true _ t)) in
+    (rw d (sym (idle-slot h v (eqb-true _ _ (not-false _ (n .1))) (n .0))), v)
+
+-- a frame that is refused or not meant for the head
+module _ (h : Head) (f : Received) where
+  abbrev Unheard : Bool
+  Unheard = f .extended || f .remote || isInitialising (h .core)
+
+  unmeant : passesBy h f ≡ true → heard h f ≡ nothing
+  unmeant p =
+      test (eqb (refusalOf f) 0)
+      (λ r. test Unheard (λ u. rw (r, u)) (λ u.
+      test (addressed h f)
+      (λ a. let no : passesBy h f ≡ false = rw (r, u, a) in true-false (sym p ∙ no))
+      (λ a.
+      let n = neither (eqb (f .identifier) 0x000 || eqb (f .identifier) 0x080) (eqb (f .identifier) (0x600 + node (h .core))) a in
+      let m = neither (eqb (f .identifier) 0x000) (eqb (f .identifier) 0x080) (n .0) in
+      rw (r, u, m .0, m .1, n .1))))
+      (λ r. rw r)
+
+  passed : passesBy h f ≡ true → h ≡ step h (receive f)
+  passed p = none-acts h (heard h f) (unmeant p)
+
+  pub rests : Valid h → {y : Bool} {n : ℕ} → Holds y → y ≡ passesBy h f → n ≡ refusalOf f → Receives h f (answered n h)
+  rests v t y n = (rw n (ap (answered (refusalOf f)) (passed (sym y ∙ holds-true _ t))), v)

@@ -1,0 +1,50 @@
+//! The calls that leave the head alone: a host makes them all the time, so they answer without handing it over.
+ghost use mathlib.Core.Path.{_≡_};
+ghost use mathlib.Core.Bool.{not};
+ghost use Rattle.lent.specs.Unmoved.{passesBy, noDue};
+ghost use Rattle.lent.specs.Questions.{anyWaits};
+use crate::Due;
+use crate::question;
+use can::Frame;
+use can::Received;
+use parts::Head;
+use services::state;
+
+const COMMAND: u32 = 0x000;
+
+const SYNC: u32 = 0x080;
+
+const REQUEST: u32 = 0x600;
+
+// Whether a frame is refused or not meant for the head.
+pub fn passes(head: Head, frame: Received) -> bool
+    ensures { λ r. ⌜ r ≡ passesBy head frame ⌝ }
+{
+    let state = head.core.nmt;
+    let identifier = frame.identifier;
+    let refused = can::refusal(frame) != can::NO_REFUSAL;
+    let unheard = frame.extended | frame.remote | state::is_initialising(state);
+    let meant = (identifier == COMMAND)
+        | (identifier == SYNC)
+        | (identifier == REQUEST + head.core.device.node as u32);
+    refused | unheard | !meant
+}
+
+pub fn empty(head: Head) -> bool
+    ensures { λ r. ⌜ r ≡ not (anyWaits head) ⌝ }
+{
+    !question::waits(head)
+}
+
+pub fn none() -> Due
+    ensures { λ r. ⌜ r ≡ noDue ⌝ }
+{
+    Due {
+        waited: false,
+        frame: Frame {
+            identifier: 0,
+            length: 0,
+            bytes: [0, 0, 0, 0, 0, 0, 0, 0],
+        },
+    }
+}
