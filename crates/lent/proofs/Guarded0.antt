@@ -35,7 +35,7 @@ use denote.Triple.Statement.{Contract, Triple}
 use denote.Triple.Call.{calls-at}
 use denote.Triple.Clauses.{Ended, Clauses, ensured, lasts, closing}
 use denote.Triple.Table.{entered, cited}
-use denote.Triple.Walked.{Stays, stay-ref, stay-dropped, walkOf, goes-dropped, goes-ref, Walks, ends-at, walked, walk-meets}
+use denote.Triple.Walked.{Stays, stay-ref, walkOf, goes-ref, Walks, ends-at, walked, walk-meets}
 use denote.Exit.{yes}
 use Rattle.lent.proofs.Thin.{Row, Takes, Clause, All, clause, bool-row, fits, hear, beside, with-all}
 

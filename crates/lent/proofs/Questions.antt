@@ -1,13 +1,11 @@
 -- The answers to a host's questions, by the tests that the code makes.
-use mathlib.Core.Path.{_≡_, sym, ap, _∙_}
+use mathlib.Core.Path.{_≡_, ap}
 use mathlib.Core.Bool.{true, false}
 use mathlib.Core.Option.{some}
 use Rattle.position.specs.Position.{position}
-use Rattle.dictionary.specs.declared.read.Shown.the-variants.{Blank, Number}
 use Rattle.parts.specs.declared.Head.{Head}
 use Rattle.promises.specs.States.{operational, isIn}
 use Rattle.promises.proofs.Readings.{shownAs, position-shown}
-use Rattle.lent.specs.declared.Located.{Located}
 use Rattle.lent.specs.Questions.{isGood, numberIn, positionOf}
 
 module _ (h : Head) where

@@ -5,7 +5,7 @@ use mathlib.Core.Path.{_≡_, refl, sym, ap, _∙_}
 use mathlib.Core.Bool.{Bool, true, false, not, _||_, and-not-self}
 use mathlib.Core.List.{[]}
 use mathlib.Core.Option.{none}
-use borrow.Author.Tests.{eqb-true, eqb-false}
+use borrow.Author.Tests.{eqb-true}
 use Rattle.cases.specs.Padded.{pad}
 use Rattle.cases.proofs.Cases.{test, true-false, neither}
 use Rattle.can.specs.declared.Received.{Received}
@@ -19,8 +19,8 @@ use Rattle.parts.specs.declared.Head.{Head}
 use Rattle.promises.specs.States.{isInitialising, node}
 use Rattle.promises.specs.WaitingLine.{emergency, may}
 use Rattle.promises.specs.Acts.{Act, nothing, idle, frameBy, emergencyOnly, goes, comes, settledTo, act}
-use Rattle.promises.specs.Calls.{receive, slot, heard, meant, sentBy, step, answered, sentWith, slotted}
-use Rattle.promises.specs.Valid.{Valid, waits}
+use Rattle.promises.specs.Calls.{receive, slot, heard, meant, step, answered, sentWith, slotted}
+use Rattle.promises.specs.Valid.{Valid}
 use Rattle.promises.specs.Promised.{Receives, Slots}
 use Rattle.head.proofs.CommandTests.{none-acts}
 use Rattle.head.proofs.SlotTests.{slot-waits}

@@ -1,5 +1,4 @@
 //! The steps by value, in the shape in which a lent head takes them.
-ghost use mathlib.Core.Path.{_≡_};
 ghost use Rattle.parts.specs.declared.Sensor.the-variants.{Missing, Raw};
 ghost use Rattle.promises.specs.Valid.{Valid};
 ghost use Rattle.promises.specs.Calls.{answered};
@@ -36,12 +35,12 @@ pub fn slot(head: Head) -> Outcome
 {
     let sent = head::slot(head);
     let frame = sent.frame;
-    let head = sent.head;
+    let left = sent.head;
     Outcome {
         due: Due {
             waited: sent.waited,
             frame,
         },
-        head,
+        head: left,
     }
 }
