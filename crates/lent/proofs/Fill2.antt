@@ -44,7 +44,7 @@ module _ {O F R P₁ P₂ : RattleType} {ω φ τ π₁ π₂ : Ty} (ρo : Row O
     outlives = [];
     params = 3;
     locals = local φ valueLocal ∷ local (tyRef (named 0) mut σ) valueLocal ∷ local π₁ valueLocal ∷ local π₂ valueLocal ∷ local ω valueLocal ∷ [];
-    body = seq (call g (copy (place 2 []) ∷ copy (place 3 []) ∷ []) (place 4 [])) (seq (assign (place 1 (deref τ ∷ [])) (rvOpd (S .x-head 4))) (seq (assign (place 0 []) (rvOpd (S .x-part 4))) return));
+    body = seq (call g (copy (place 2 []) ∷ copy (place 3 []) ∷ []) (place 4 [])) (seq (assign (place 1 (deref τ ∷ [])) (rvOpd (S .x-head 4))) (seq (assign (place 0 []) (S .x-part 4)) return));
   }
 
   abbrev ended : Ended
@@ -107,7 +107,7 @@ module _ {O F R P₁ P₂ : RattleType} {ω φ τ π₁ π₂ : Ty} (ρo : Row O
               split ! $ move ! (1 ∷ []) $ use1 W (raw (fact 𝓤 (All (Gives p₁ p₂ z)))) (told z) $ heard ! (All (Gives p₁ p₂ z)) (λ said. split ! $ drop ! $ peeks ! O (Is O) (shows 𝓤 H A O) z (v ∷ []) (λ z-is. drop ! $
               land ! (from ! (stop !)) (init ! 5 refl (fits ρo 𝓤 H A W z v z-is)) $ rewrite ! 5 (λ (u : Val). ‵ (fat fullShare ω l₄ 0 u)) (ap only (ρo .tells z _ z-is)) refl $
               assigns ! (of-opd ! (S .ev-head ! 4 5 z refl refl)) (from ! (hop ! (look ! 11 refl) (stop !))) (store-raw ! 0 refl (fits ρ 𝓤 H A W (S .head z) _ (S .parts z _ z-is .1))) $
-              assigns ! (of-opd ! (S .ev-part ! 4 5 z refl refl)) (from ! (stop !)) (init ! 13 refl (fits ρf 𝓤 H A W (S .part z) _ (S .parts z _ z-is .0))) $
+              assigns ! (S .ev-part ! 4 5 z refl refl) (from ! (stop !)) (init ! 13 refl (fits ρf 𝓤 H A W (S .part z) _ (S .parts z _ z-is .0))) $
               rewrite ! 0 (λ (τs : List Ty). ‵ (cellAt fullShare τs (ρ .val (S .head z) ∷ []) b o)) (sym (ρ .layout)) refl $
               move ! (1 ∷ []) $ drop ! $ owned ! R (Is R) (ρ .makes 𝓤 H A W) (S .head z) _ (S .parts z _ z-is .1) $ move ! (1 ∷ 0 ∷ []) $ closes ! tt R (S .head z) (ρ .val (S .head z) ∷ []) b o $
               returns ! (look ! 11 refl) $ forget ! 3 refl $ forget ! 5 refl $ forget ! 7 refl $ forget ! 9 refl $ forget ! 11 refl $ move ! (11 ∷ 12 ∷ []) $ free1 ! $ move ! (9 ∷ 10 ∷ []) $ free1 ! $ move ! (7 ∷ 8 ∷ []) $ free1 ! $ move ! (5 ∷ 6 ∷ []) $ free1 ! $ move ! (3 ∷ 4 ∷ []) $ free1 ! $ free0 ! $

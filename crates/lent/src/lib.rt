@@ -87,9 +87,12 @@ pub extern "C" fn haybleater_slot(head: &mut Head) -> Due
     if idle::empty(*head) {
         return idle::none();
     }
-    let sent = step::slot(*head);
+    let sent = head::slot(*head);
     *head = sent.head;
-    sent.due
+    Due {
+        waited: sent.waited,
+        frame: sent.frame,
+    }
 }
 
 #[no_mangle]

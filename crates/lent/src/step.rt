@@ -2,17 +2,10 @@
 ghost use Rattle.parts.specs.declared.Sensor.the-variants.{Missing, Raw};
 ghost use Rattle.promises.specs.Valid.{Valid};
 ghost use Rattle.promises.specs.Calls.{answered};
-ghost use Rattle.promises.specs.Promised.{Samples, Slots};
-ghost use Rattle.lent.specs.Steps.{sentAs};
-use crate::Due;
+ghost use Rattle.promises.specs.Promised.{Samples};
 use parts::Answer;
 use parts::Head;
 use parts::Sensor;
-
-pub struct Outcome {
-    pub due: Due,
-    pub head: Head,
-}
 
 pub fn sampled(head: Head, raw: u32) -> Answer
     requires { ⌜ Valid head ⌝ }
@@ -27,20 +20,4 @@ pub fn missing(head: Head) -> Head
 {
     let answer = head::sample(head, Sensor::Missing);
     answer.head
-}
-
-pub fn slot(head: Head) -> Outcome
-    requires { ⌜ Valid head ⌝ }
-    ensures { λ r. ⌜ Slots head (sentAs (r .due) (r .head)) ⌝ }
-{
-    let sent = head::slot(head);
-    let frame = sent.frame;
-    let left = sent.head;
-    Outcome {
-        due: Due {
-            waited: sent.waited,
-            frame,
-        },
-        head: left,
-    }
 }
