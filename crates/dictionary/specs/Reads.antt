@@ -1,9 +1,7 @@
 -- What an entry reads, blank or its number: 01's chapter "Entries".
-use Prim.Native.Nat.{ℕ, _-_}
-use lib.Dec.{eqb, leb, ltb}
+use Prim.Native.Nat.{ℕ}
 use lib.ListN.{getD}
-use mathlib.Core.Bool.{Bool, false, not, _&&_, cond}
-use mathlib.Core.List.{List, map}
+use mathlib.Core.Bool.{Bool, false, cond}
 use mathlib.Core.Option.{Option, none, some}
 use Rattle.entries.specs.declared.Device.{Device}
 use Rattle.entries.specs.declared.table.Found.{Found}
@@ -11,15 +9,6 @@ use Rattle.entries.specs.declared.table.Found.the-variants.{At, NoSubIndex, NoI
 use Rattle.entries.specs.Table.{Entry, entries, noRow, lookup}
 use Rattle.dictionary.specs.declared.read.Shown.{Shown}
 use Rattle.dictionary.specs.declared.read.Shown.the-variants.{Blank, Number}
-
--- The columns of the table, as the code has them.
-abbrev pub numbers : Device → Bool → List ℕ
-numbers d o = map (λ e. e .number d o) entries
-
--- 1003-1..4 beyond the count are blank; 6004-0 is blank while missing
-abbrev pub blanks : ℕ → ℕ → Bool → Bool
-blanks k errors good =
-    cond (leb 0x1003_01 k && leb k 0x1003_04) (ltb errors (k - 0x1003_00)) (eqb k 0x6004_00 && not good)
 
 -- past the end of the table
 abbrev pub noEntry : Entry

@@ -1,4 +1,5 @@
 pub mod Length
+pub mod Beside
 pub mod Lookup
 pub mod Found
 pub mod Laws

@@ -1,41 +1,67 @@
--- `lookupFrom`, one row after another, for any list of rows.
-use mathlib.Core.Path.{_≡_, refl, _∙_}
-use mathlib.Core.Bool.{Bool, true, false}
-use mathlib.Core.List.{List, _∷_}
-use Prim.Native.Nat.{ℕ, suc, _+_, _<_}
-use native.Mathlib.Numerals.{add-one}
-use lib.ListN.{length, getD, drop}
-use lib.Seq.{drop-cons}
-use borrow.Author.Tests.{eq-eqb, ne-eqb}
-use Rattle.entries.specs.Table.{lookupFrom, noSub, noRow}
+-- `lookupFrom` by the index: among the sub-indices that an index has, and for one that no row has. By induction. Assumes nothing.
+use mathlib.Core.Path.{_≡_, refl, sym, ap, _∙_}
+use mathlib.Core.Bool.{Bool, true, false, _||_, _&&_, cond}
+use mathlib.Core.List.{List, [], _∷_}
+use Prim.Native.Nat.{ℕ, zero, suc, _+_}
+use native.Mathlib.Nat.{add-zero}
+use native.Mathlib.Omega.{arith}
+use lib.Dec.{eqb, ltb, leb·suc-suc}
+use borrow.Author.Tests.{eqb-true, eqb-false, eq-eqb, ne-eqb, lt-ltb, le-ltb}
+use Rattle.cases.proofs.Cases.{true-false, test, both, either}
+use Rattle.entries.specs.Table.{lookupFrom, noSub}
 use Rattle.entries.specs.declared.table.Row.{Row}
 use Rattle.entries.specs.declared.table.Found.{Found}
 use Rattle.entries.specs.declared.table.Found.the-variants.{At, NoSubIndex, NoIndex}
+use Rattle.entries.proofs.Beside.{Beside}
 
--- what the rows that were passed leave: whether the index was among them
-abbrev pub over : Bool → Found → Found
-over true f = noSub f
-over false f = f
+-- what is found of the sub-index j among n rows in turn, of which the first stands at p and has the sub-index k
+abbrev run : ℕ → ℕ → ℕ → ℕ → Found
+run p k zero j = NoSubIndex
+run p k (suc n) j = cond (eqb k j) (At p) (noSub (run (suc p) (suc k) n j))
 
-over-at : (b : Bool) (p : ℕ) → over b (At p) ≡ At p
-over-at true p = refl
-over-at false p = refl
+found-stays : (b : Bool) (p : ℕ) → noSub (cond b (At p) NoSubIndex) ≡ cond b (At p) NoSubIndex
+found-stays true p = refl
+found-stays false p = refl
 
-over-noSub : (b : Bool) (f : Found) → over b (noSub f) ≡ noSub f
-over-noSub true (At p) = refl
-over-noSub true NoSubIndex = refl
-over-noSub true NoIndex = refl
-over-noSub false f = refl
+run-from : (p k n j m : ℕ) → j ≡ k + m → cond (ltb m n) (At (p + m)) NoSubIndex ≡ run p k n j
+run-from p k zero j m e = rw (le-ltb m 0 (omega arith))
+run-from p k (suc n) j zero e = rw (lt-ltb 0 (suc n) (omega arith), eq-eqb k j (omega arith), add-zero)
+run-from p k (suc n) j (suc m) e =
+    let place : p + suc m ≡ suc p + m = omega arith in
+    rw (ne-eqb k j (λ f. omega arith), leb·suc-suc (suc m) n, place, ← run-from (suc p) (suc k) n j m (omega arith)) (sym (found-stays (ltb m n) (suc p + m)))
 
-module _ (t : List Row) (b : Bool) (p i j : ℕ) (h : p < length t) (r : Row) (e : r ≡ getD t p noRow) where
-  one : over b (lookupFrom p (drop p t) i j) ≡ over b (lookupFrom p (r ∷ drop (p + 1) t) i j)
-  one = rw (drop-cons t p noRow h, e, add-one p)
+pub among : (p n j : ℕ) → cond (ltb j n) (At (p + j)) NoSubIndex ≡ run p 0 n j
+among p n j = run-from p 0 n j j (omega arith)
 
-  pub hit : r .0 ≡ i → r .1 ≡ j → over b (lookupFrom p (drop p t) i j) ≡ At p
-  hit f g = one ∙ rw (eq-eqb _ _ f, eq-eqb _ _ g) (over-at b p)
+-- the same of four rows, with the sub-indices 0, 1, 2 and 5
+abbrev pdo-run : ℕ → ℕ → Found
+pdo-run p j =
+    cond (eqb 0 j) (At p) (noSub (cond (eqb 1 j) (At (suc p)) (noSub (cond (eqb 2 j) (At (suc (suc p))) (noSub (cond (eqb 5 j) (At (p + 3)) NoSubIndex))))))
 
-  pub passed : r .0 ≡ i → (r .1 ≡ j → ⊥) → over b (lookupFrom p (drop p t) i j) ≡ over true (lookupFrom (p + 1) (drop (p + 1) t) i j)
-  passed f g = one ∙ rw (eq-eqb _ _ f, ne-eqb _ _ g, add-one p) (over-noSub b (lookupFrom (suc p) (drop (suc p) t) i j))
+pub among-pdo : (p j : ℕ) → cond (eqb j 5) (At (p + 3)) (cond (ltb j 3) (At (p + j)) NoSubIndex) ≡ pdo-run p j
+among-pdo p j =
+    test (eqb j 5)
+    (λ e. let five = eqb-true j 5 e in rw five)
+    (λ e. let other = ne-eqb 5 j (λ f. eqb-false j 5 e (sym f)) in rw (e, other) (among p 3 j))
 
-  pub other : (r .0 ≡ i → ⊥) → over b (lookupFrom p (drop p t) i j) ≡ over b (lookupFrom (p + 1) (drop (p + 1) t) i j)
-  other f = one ∙ rw (ne-eqb _ _ f, add-one p)
+abbrev listed : List ℕ → ℕ → Bool
+listed [] a = false
+listed (k ∷ ks) a = eqb a k || listed ks a
+
+-- whether each row's index is among ks
+abbrev all-listed : List ℕ → List Row → Bool
+all-listed ks [] = true
+all-listed ks (r ∷ l) = listed ks (r .0) && all-listed ks l
+
+not-listed : (i a : ℕ) (ks : List ℕ) → Beside i ks → listed ks a ≡ true → eqb a i ≡ false
+not-listed i a [] b e = true-false (sym e)
+not-listed i a (k ∷ ks) b e =
+    either (eqb a k) (listed ks a) e
+    (λ f. ne-eqb a i (λ g. b .1 (sym g ∙ eqb-true a k f)))
+    (λ f. not-listed i a ks (b .0) f)
+
+pub absent : (p : ℕ) (l : List Row) (ks : List ℕ) (i j : ℕ) → all-listed ks l ≡ true → Beside i ks → NoIndex ≡ lookupFrom p l i j
+absent p [] ks i j e b = refl
+absent p (r ∷ l) ks i j e b =
+    let h = both (listed ks (r .0)) (all-listed ks l) e in
+    rw (not-listed i (r .0) ks b (h .0)) (absent (suc p) l ks i j (h .1) b)

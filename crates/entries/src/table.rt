@@ -1,7 +1,10 @@
 //! The table of entries, in index order: the row of each, and where an entry stands.
 ghost use mathlib.Core.Path.{_≡_};
-ghost use Prim.Native.Nat.{_<_};
+ghost use mathlib.Core.Bool.{cond};
+ghost use Prim.Native.Nat.{_+_, _<_, _≤_};
+ghost use lib.Dec.{eqb, ltb};
 ghost use lib.ListN.{getD, length};
+ghost use Rattle.entries.specs.declared.table.Found.the-variants.{At, NoSubIndex};
 ghost use Rattle.entries.specs.Table.{table, noRow, keyOf, key as keyIn, lookup};
 
 // The values that an entry accepts.
@@ -74,81 +77,130 @@ const RO: bool = false;
 
 const RW: bool = true;
 
-pub const ROWS: usize = 44;
-
-const TABLE: [Row; ROWS] = [
-    Row(0x1000, 0, U32, RO, Accepted::Nothing),
-    Row(0x1001, 0, U8, RO, Accepted::Nothing),
-    Row(0x1003, 0, U8, RW, Accepted::Only(0)),
-    Row(0x1003, 1, U32, RO, Accepted::Nothing),
-    Row(0x1003, 2, U32, RO, Accepted::Nothing),
-    Row(0x1003, 3, U32, RO, Accepted::Nothing),
-    Row(0x1003, 4, U32, RO, Accepted::Nothing),
-    Row(0x1005, 0, U32, RO, Accepted::Nothing),
-    Row(0x1010, 0, U8, RO, Accepted::Nothing),
-    Row(0x1010, 1, U32, RW, Accepted::Signature(0x6576_6173)),
-    Row(0x1011, 0, U8, RO, Accepted::Nothing),
-    Row(0x1011, 1, U32, RW, Accepted::Signature(0x6461_6F6C)),
-    Row(0x1014, 0, U32, RW, Accepted::EmergencyIdentifier),
-    Row(0x1015, 0, U16, RW, Accepted::All),
-    Row(0x1017, 0, U16, RW, Accepted::All),
-    Row(0x1018, 0, U8, RO, Accepted::Nothing),
-    Row(0x1018, 1, U32, RO, Accepted::Nothing),
-    Row(0x1018, 2, U32, RO, Accepted::Nothing),
-    Row(0x1018, 3, U32, RO, Accepted::Nothing),
-    Row(0x1018, 4, U32, RO, Accepted::Nothing),
-    Row(0x1800, 0, U8, RO, Accepted::Nothing),
-    Row(0x1800, 1, U32, RW, Accepted::PdoIdentifier),
-    Row(0x1800, 2, U8, RW, Accepted::TransmissionType),
-    Row(0x1800, 5, U16, RW, Accepted::All),
-    Row(0x1801, 0, U8, RO, Accepted::Nothing),
-    Row(0x1801, 1, U32, RW, Accepted::PdoIdentifier),
-    Row(0x1801, 2, U8, RW, Accepted::TransmissionType),
-    Row(0x1801, 5, U16, RW, Accepted::All),
-    Row(0x1A00, 0, U8, RO, Accepted::Nothing),
-    Row(0x1A00, 1, U32, RO, Accepted::Nothing),
-    Row(0x1A01, 0, U8, RO, Accepted::Nothing),
-    Row(0x1A01, 1, U32, RO, Accepted::Nothing),
-    Row(0x6000, 0, U16, RW, Accepted::OperatingParameters),
-    Row(0x6002, 0, U32, RW, Accepted::Between(1_000, 1_000_000)),
-    Row(0x6003, 0, U32, RW, Accepted::BelowRange),
-    Row(0x6004, 0, U32, RO, Accepted::Nothing),
-    Row(0x6005, 0, U8, RO, Accepted::Nothing),
-    Row(0x6005, 1, U32, RW, Accepted::Between(5_000, 1_000_000)),
-    Row(0x6200, 0, U16, RW, Accepted::All),
-    Row(0x6500, 0, U16, RO, Accepted::Nothing),
-    Row(0x6501, 0, U32, RO, Accepted::Nothing),
-    Row(0x6503, 0, U16, RO, Accepted::Nothing),
-    Row(0x6504, 0, U16, RO, Accepted::Nothing),
-    Row(0x6509, 0, S32, RO, Accepted::Nothing),
-];
-
 pub fn find(index: u16, sub: u8) -> Found
     ensures { λ r. ⌜ r ≡ lookup index sub ⌝ }
 {
-    let mut seen = false;
-    let mut place: usize = 0;
-    while place < ROWS {
-        let row = row_at(place);
-        if row.0 == index {
-            if row.1 == sub {
-                return Found::At(place);
-            }
-            seen = true;
-        }
-        place += 1;
+    match index {
+        0x1000 => among(0, 1, sub),
+        0x1001 => among(1, 1, sub),
+        0x1003 => among(2, 5, sub),
+        0x1005 => among(7, 1, sub),
+        0x1010 => among(8, 2, sub),
+        0x1011 => among(10, 2, sub),
+        0x1014 => among(12, 1, sub),
+        0x1015 => among(13, 1, sub),
+        0x1017 => among(14, 1, sub),
+        0x1018 => among(15, 5, sub),
+        0x1800 => among_pdo(20, sub),
+        0x1801 => among_pdo(24, sub),
+        0x1A00 => among(28, 2, sub),
+        0x1A01 => among(30, 2, sub),
+        0x6000 => among(32, 1, sub),
+        0x6002 => among(33, 1, sub),
+        0x6003 => among(34, 1, sub),
+        0x6004 => among(35, 1, sub),
+        0x6005 => among(36, 2, sub),
+        0x6200 => among(38, 1, sub),
+        0x6500 => among(39, 1, sub),
+        0x6501 => among(40, 1, sub),
+        0x6503 => among(41, 1, sub),
+        0x6504 => among(42, 1, sub),
+        0x6509 => among(43, 1, sub),
+        _ => Found::NoIndex,
     }
-    if seen {
-        return Found::NoSubIndex;
-    }
-    Found::NoIndex
 }
 
+// Of an index with the sub-indices below `count`, the first of which stands at `first`.
+fn among(first: u8, count: u8, sub: u8) -> Found
+    ensures { λ r. ⌜ r ≡ cond (ltb sub count) (At (first + sub)) NoSubIndex ⌝ }
+{
+    if sub < count {
+        return Found::At(first as usize + sub as usize);
+    }
+    Found::NoSubIndex
+}
+
+// Of an index with the sub-indices 0, 1, 2 and 5.
+fn among_pdo(first: u8, sub: u8) -> Found
+    ensures { λ r. ⌜ r ≡ cond (eqb sub 5) (At (first + 3)) (cond (ltb sub 3) (At (first + sub)) NoSubIndex) ⌝ }
+{
+    if sub == 5 {
+        return Found::At(first as usize + 3);
+    }
+    among(first, 3, sub)
+}
+
+// The table; here 1000h to 1018h.
 pub fn row_at(place: usize) -> Row
     requires { ⌜ place < length table ⌝ }
     ensures { λ r. ⌜ r ≡ getD table place noRow ⌝ }
 {
-    TABLE[place]
+    match place {
+        0 => Row(0x1000, 0, U32, RO, Accepted::Nothing),
+        1 => Row(0x1001, 0, U8, RO, Accepted::Nothing),
+        2 => Row(0x1003, 0, U8, RW, Accepted::Only(0)),
+        3 => Row(0x1003, 1, U32, RO, Accepted::Nothing),
+        4 => Row(0x1003, 2, U32, RO, Accepted::Nothing),
+        5 => Row(0x1003, 3, U32, RO, Accepted::Nothing),
+        6 => Row(0x1003, 4, U32, RO, Accepted::Nothing),
+        7 => Row(0x1005, 0, U32, RO, Accepted::Nothing),
+        8 => Row(0x1010, 0, U8, RO, Accepted::Nothing),
+        9 => Row(0x1010, 1, U32, RW, Accepted::Signature(0x6576_6173)),
+        10 => Row(0x1011, 0, U8, RO, Accepted::Nothing),
+        11 => Row(0x1011, 1, U32, RW, Accepted::Signature(0x6461_6F6C)),
+        12 => Row(0x1014, 0, U32, RW, Accepted::EmergencyIdentifier),
+        13 => Row(0x1015, 0, U16, RW, Accepted::All),
+        14 => Row(0x1017, 0, U16, RW, Accepted::All),
+        15 => Row(0x1018, 0, U8, RO, Accepted::Nothing),
+        16 => Row(0x1018, 1, U32, RO, Accepted::Nothing),
+        17 => Row(0x1018, 2, U32, RO, Accepted::Nothing),
+        18 => Row(0x1018, 3, U32, RO, Accepted::Nothing),
+        19 => Row(0x1018, 4, U32, RO, Accepted::Nothing),
+        _ => pdo_row(place),
+    }
+}
+
+// 1800h to 1A01h.
+fn pdo_row(place: usize) -> Row
+    requires { ⌜ (20 ≤ place) × (place < length table) ⌝ }
+    ensures { λ r. ⌜ r ≡ getD table place noRow ⌝ }
+{
+    match place {
+        20 => Row(0x1800, 0, U8, RO, Accepted::Nothing),
+        21 => Row(0x1800, 1, U32, RW, Accepted::PdoIdentifier),
+        22 => Row(0x1800, 2, U8, RW, Accepted::TransmissionType),
+        23 => Row(0x1800, 5, U16, RW, Accepted::All),
+        24 => Row(0x1801, 0, U8, RO, Accepted::Nothing),
+        25 => Row(0x1801, 1, U32, RW, Accepted::PdoIdentifier),
+        26 => Row(0x1801, 2, U8, RW, Accepted::TransmissionType),
+        27 => Row(0x1801, 5, U16, RW, Accepted::All),
+        28 => Row(0x1A00, 0, U8, RO, Accepted::Nothing),
+        29 => Row(0x1A00, 1, U32, RO, Accepted::Nothing),
+        30 => Row(0x1A01, 0, U8, RO, Accepted::Nothing),
+        31 => Row(0x1A01, 1, U32, RO, Accepted::Nothing),
+        _ => profile_row(place),
+    }
+}
+
+// 6000h to 6509h.
+fn profile_row(place: usize) -> Row
+    requires { ⌜ (32 ≤ place) × (place < length table) ⌝ }
+    ensures { λ r. ⌜ r ≡ getD table place noRow ⌝ }
+{
+    match place {
+        32 => Row(0x6000, 0, U16, RW, Accepted::OperatingParameters),
+        33 => Row(0x6002, 0, U32, RW, Accepted::Between(1_000, 1_000_000)),
+        34 => Row(0x6003, 0, U32, RW, Accepted::BelowRange),
+        35 => Row(0x6004, 0, U32, RO, Accepted::Nothing),
+        36 => Row(0x6005, 0, U8, RO, Accepted::Nothing),
+        37 => Row(0x6005, 1, U32, RW, Accepted::Between(5_000, 1_000_000)),
+        38 => Row(0x6200, 0, U16, RW, Accepted::All),
+        39 => Row(0x6500, 0, U16, RO, Accepted::Nothing),
+        40 => Row(0x6501, 0, U32, RO, Accepted::Nothing),
+        41 => Row(0x6503, 0, U16, RO, Accepted::Nothing),
+        42 => Row(0x6504, 0, U16, RO, Accepted::Nothing),
+        _ => Row(0x6509, 0, S32, RO, Accepted::Nothing),
+    }
 }
 
 pub fn key(row: Row) -> u32

@@ -1,21 +1,41 @@
--- `table::row_at` meets its contract: the constant is the table of `specs/`, row by row.
-use mathlib.Core.Path.{refl}
+-- `table::row_at` meets its contract: a row for each place.
+use native.Mathlib.Omega.{arith}
 use borrow.Author.Needs.{needs}
 use Rattle.entries.specs.Table.{entries, table}
+use Rattle.entries.proofs.Beside.{past}
 use Rattle.entries.proofs.table.row_at.Statement.{statement}
 use Rattle.entries.proofs.table.row_at.Tie as tie
 
-mul-result : tie.Need-mul-result
-unfolding table entries
-mul-result c = search needs
+pdo-row-requires : tie.Need-pdo-row-requires
+pdo-row-requires c κs = (past 0 20 (omega arith) (c .match .rest), c .before .pre)
 
-array-copy-out-result : tie.Need-array-copy-out-result
-unfolding table entries
-array-copy-out-result c = search needs
-
-returns : tie.Need-returns
-unfolding table entries
-returns c = refl
+rest : tie.Need-returns-21
+rest c = search needs
 
 pub row-at-spec : {M : Type 1} → statement M
-row-at-spec = tie.close (tie.spec mul-result array-copy-out-result returns)
+unfolding table entries
+row-at-spec =
+    tie.close
+    (tie.spec
+    pdo-row-requires
+    (λ c. rw (c .match .keys1))
+    (λ c. rw (c .match .keys2))
+    (λ c. rw (c .match .keys3))
+    (λ c. rw (c .match .keys4))
+    (λ c. rw (c .match .keys5))
+    (λ c. rw (c .match .keys6))
+    (λ c. rw (c .match .keys7))
+    (λ c. rw (c .match .keys8))
+    (λ c. rw (c .match .keys9))
+    (λ c. rw (c .match .keys10))
+    (λ c. rw (c .match .keys11))
+    (λ c. rw (c .match .keys12))
+    (λ c. rw (c .match .keys13))
+    (λ c. rw (c .match .keys14))
+    (λ c. rw (c .match .keys15))
+    (λ c. rw (c .match .keys16))
+    (λ c. rw (c .match .keys17))
+    (λ c. rw (c .match .keys18))
+    (λ c. rw (c .match .keys19))
+    (λ c. rw (c .match .keys20))
+    rest)
