@@ -9,7 +9,7 @@ Beside n [] = Unit {0}
 Beside n (k ∷ ks) = Beside n ks × (n ≡ k → ⊥)
 
 -- so many keys in turn, the first a
-abbrev pub turns : ℕ → ℕ → List ℕ
+abbrev turns : ℕ → ℕ → List ℕ
 turns a zero = []
 turns a (suc n) = (a + n) ∷ turns a n
 
