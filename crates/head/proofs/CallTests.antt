@@ -3,7 +3,6 @@ use Prim.Native.Nat.{ℕ, _<_, _≤_}
 use lib.Dec.{eqb}
 use mathlib.Core.Path.{_≡_, refl, sym, ap, subst, _∙_}
 use mathlib.Core.Bool.{true, false, not, _||_}
-use mathlib.Core.List.{List}
 use borrow.Author.Tests.{lt-ltb, le-ltb, leb-true}
 use native.Mathlib.Omega.{arith}
 use Rattle.can.specs.declared.Received.{Received}
@@ -13,7 +12,6 @@ use Rattle.cases.proofs.Cases.{both}
 use Rattle.entries.specs.declared.Identity.{Identity}
 use Rattle.dictionary.specs.Valid.{ValidIdentity}
 use Rattle.waiting.specs.Line.{first}
-use Rattle.waiting.specs.Places.{takenIn}
 use Rattle.parts.specs.declared.Head.{Head}
 use Rattle.parts.specs.declared.Sent.{Sent}
 use Rattle.parts.specs.declared.Sensor.the-variants.{Missing, Raw}
@@ -61,10 +59,9 @@ module _ (h : Head) (v : Valid h) where
         let q = p ∙ sym (ap (act false h) m) in
         (rw (le-ltb _ _ b) (ap (answered 0) p), leaves (sample (Raw raw)) q)
 
-  -- l is the line that is left
-  pub sends-first : {l : List ℕ} → l ≡ takenIn (h .line)
-      → let a = sentBy (h .core) (first (h .line)) in
-      let r = settledTo false (record { core = h .core; line = l }) (acted (h .core) a) emergencyOnly in
+  pub sends-first :
+      let a = sentBy (h .core) (first (h .line)) in
+      let r = settledTo true h (acted (h .core) a) emergencyOnly in
       let s : Sent = record { waited = isInitialising (h .core) || not (eqb (first (h .line)) 0); frame = frameIn (frameBy (h .core) a); head = r } in
       (s ≡ slotted h) × Valid r
-  sends-first p = rw (p, slot-settles h, ← slot-waits (h .core) (first (h .line))) (refl, valid-step h slot v)
+  sends-first = rw (slot-settles h, ← slot-waits (h .core) (first (h .line))) (refl, valid-step h slot v)

@@ -7,10 +7,8 @@ use borrow.Author.Tests.{eqb-true, ne-eqb}
 use Rattle.cases.proofs.Cases.{by, cond-ap}
 use mathlib.Core.List.{[], _∷_}
 use Rattle.waiting.specs.Line.{first}
-use Rattle.waiting.specs.Places.{takenIn}
 use Rattle.parts.specs.declared.Core.{Core}
 use Rattle.parts.specs.declared.Head.{Head}
-use Rattle.parts.specs.declared.Flags.{Flags}
 use Rattle.promises.specs.States.{one, two, isInitialising, node}
 use Rattle.promises.specs.Acts.{Act, boot, idle, send, sending, acted, moments, emergencyOnly, settledTo, act, frameBy}
 use Rattle.promises.specs.Calls.{sentBy, isFrame, frameIn}
@@ -64,16 +62,8 @@ module _ (c : Core) (k : ℕ) where
   pub boot-frame : isInitialising c ≡ true → frame (0x700 + node c) 1 (c .nmt .code ∷ []) ≡ frameIn (frameBy c (sentBy c k))
   boot-frame e = ap (λ n. frame (0x700 + node c) 1 (n ∷ [])) (eqb-true (c .nmt .code) 0 e) ∙ frame-as boot (boots e)
 
--- a head whose first was sent
-abbrev left : Head → Head
-left h = record { core = h .core; line = takenIn (h .line) }
-
-left-settles : (h : Head) (c : Core) (due : Flags) → settledTo false (left h) c due ≡ settledTo true h c due
-unfolding settledTo
-left-settles h c due = refl
-
-pub slot-settles : (h : Head) → let a = sentBy (h .core) (first (h .line)) in settledTo false (left h) (acted (h .core) a) emergencyOnly ≡ act true h a
+pub slot-settles : (h : Head) → let a = sentBy (h .core) (first (h .line)) in settledTo true h (acted (h .core) a) emergencyOnly ≡ act true h a
 unfolding act
 slot-settles h =
     let a = sentBy (h .core) (first (h .line)) in
-    left-settles h (acted (h .core) a) emergencyOnly ∙ ap (settledTo true h (acted (h .core) a)) (sym (slot-moments (h .core) (first (h .line))))
+    ap (settledTo true h (acted (h .core) a)) (sym (slot-moments (h .core) (first (h .line))))

@@ -4,7 +4,8 @@ ghost use mathlib.Core.Bool.{false};
 ghost use Rattle.position.specs.Profile.{ValidProfile};
 ghost use Rattle.promises.specs.States.{started as startedHead};
 ghost use Rattle.promises.specs.Acts.{act};
-ghost use Rattle.promises.specs.Calls.{heardUnrefused as heardAs};
+ghost use Rattle.parts.specs.declared.Sensor.the-variants.{Missing, Raw};
+ghost use Rattle.promises.specs.Calls.{heardUnrefused as heardAs, answered};
 ghost use Rattle.promises.specs.Valid.{Valid};
 ghost use Rattle.promises.specs.Promised.{PowersUp, Receives, Ticks, Samples, Slots};
 use can::Received;
@@ -142,9 +143,23 @@ pub fn sample(head: Head, sensor: Sensor) -> Answer
     let Sensor::Raw(raw) = sensor else {
         return Answer {
             refusal: can::NO_REFUSAL,
-            head: tape::lost(head),
+            head: missing(head),
         };
     };
+    read(head, raw)
+}
+
+pub fn missing(head: Head) -> Head
+    requires { ⌜ Valid head ⌝ }
+    ensures { λ r. ⌜ Samples head Missing (answered 0 r) ⌝ }
+{
+    tape::lost(head)
+}
+
+pub fn read(head: Head, raw: u32) -> Answer
+    requires { ⌜ Valid head ⌝ }
+    ensures { λ r. ⌜ Samples head (Raw raw) r ⌝ }
+{
     if HIGHEST_RAW < raw {
         return Answer {
             refusal: BAD_SAMPLE,
@@ -166,13 +181,9 @@ pub fn slot(head: Head) -> Sent
     let state = core.nmt;
     let line = head.line;
     let kind = waiting::first(line);
-    let left = Head {
-        core,
-        line: waiting::taken(line),
-    };
     Sent {
         waited: sending::waits(state, kind),
         frame: sending::frame(core, kind),
-        head: settle::settled(left, sending::after(core, kind), settle::emergency_only()),
+        head: settle::sent(head, sending::after(core, kind)),
     }
 }

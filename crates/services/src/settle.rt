@@ -1,10 +1,10 @@
 //! The waiting line after a call: a kind goes when its condition ends, and joins when it is its moment and it may.
 ghost use mathlib.Core.Path.{_≡_};
-ghost use mathlib.Core.Bool.{false};
+ghost use mathlib.Core.Bool.{true, false};
 ghost use Rattle.waiting.specs.Calls.{withdrawsIn, joinsIn};
 ghost use Rattle.promises.specs.WaitingLine.{those, flag, mays as maysOf};
 ghost use Rattle.promises.specs.Acts.{emergencyOnly, settledTo};
-ghost use Rattle.services.specs.Steps.{settledLine};
+ghost use Rattle.services.specs.Steps.{goesOf, comesOf, settledLine, anyOf};
 use crate::emergency;
 use crate::heartbeat;
 use crate::state;
@@ -40,7 +40,27 @@ pub fn settled(head: Head, core: Core, due: Flags) -> Head
 {
     let before = head.core;
     let waited = head.line;
-    let line = settle(waited, mays(before), mays(core), due);
+    let line = settle(Turn {
+        line: waited,
+        before: mays(before),
+        after: mays(core),
+        due,
+    });
+    Head { core, line }
+}
+
+// The same once the first is sent.
+pub fn sent(head: Head, core: Core) -> Head
+    ensures { λ r. ⌜ r ≡ settledTo true head core emergencyOnly ⌝ }
+{
+    let before = head.core;
+    let waited = head.line;
+    let line = settle(Turn {
+        line: waiting::taken(waited),
+        before: mays(before),
+        after: mays(core),
+        due: emergency_only(),
+    });
     Head { core, line }
 }
 
@@ -61,24 +81,63 @@ fn mays(core: Core) -> Flags
     }
 }
 
-fn settle(line: Line, before: Flags, after: Flags, due: Flags) -> Line
-    ensures { λ r. ⌜ r ≡ settledLine line before after due ⌝ }
+// A line, the kinds that could wait and that can now, and those whose moment it is. What settles a line is given this and no more:
+// the head stays where it is.
+struct Turn {
+    line: Line,
+    before: Flags,
+    after: Flags,
+    due: Flags,
+}
+
+// After most calls nobody moves.
+fn settle(turn: Turn) -> Line
+    ensures { λ r. ⌜ r ≡ settledLine turn ⌝ }
 {
-    let goes = Flags {
+    let line = turn.line;
+    let goes = leaving(turn);
+    let comes = joining(turn);
+    if any(goes) {
+        return join_those(withdraw_those(line, goes), comes);
+    }
+    if any(comes) {
+        return join_those(line, comes);
+    }
+    line
+}
+
+fn leaving(turn: Turn) -> Flags
+    ensures { λ r. ⌜ r ≡ goesOf turn ⌝ }
+{
+    let before = turn.before;
+    let after = turn.after;
+    Flags {
         emergency: before.emergency & !after.emergency,
         reply: before.reply & !after.reply,
         heartbeat: before.heartbeat & !after.heartbeat,
         tpdo1: before.tpdo1 & !after.tpdo1,
         tpdo2: before.tpdo2 & !after.tpdo2,
-    };
-    let comes = Flags {
+    }
+}
+
+fn joining(turn: Turn) -> Flags
+    ensures { λ r. ⌜ r ≡ comesOf turn ⌝ }
+{
+    let due = turn.due;
+    let after = turn.after;
+    Flags {
         emergency: due.emergency & after.emergency,
         reply: due.reply & after.reply,
         heartbeat: due.heartbeat & after.heartbeat,
         tpdo1: due.tpdo1 & after.tpdo1,
         tpdo2: due.tpdo2 & after.tpdo2,
-    };
-    join_those(withdraw_those(line, goes), comes)
+    }
+}
+
+fn any(flags: Flags) -> bool
+    ensures { λ r. ⌜ r ≡ anyOf flags ⌝ }
+{
+    flags.emergency | flags.reply | flags.heartbeat | flags.tpdo1 | flags.tpdo2
 }
 
 fn withdraw_those(line: Line, goes: Flags) -> Line

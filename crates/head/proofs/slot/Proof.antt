@@ -7,9 +7,6 @@ use Rattle.head.proofs.slot.Tie as tie
 first-requires : tie.Need-first-requires
 first-requires c κs = search needs
 
-taken-requires : tie.Need-taken-requires
-taken-requires c κs = search needs
-
 waits-requires : tie.Need-waits-requires
 waits-requires c κs = search needs
 
@@ -19,34 +16,22 @@ frame-requires c κs = search needs
 after-requires : tie.Need-after-requires
 after-requires c κs = search needs
 
-emergency-only-requires : tie.Need-emergency-only-requires
-emergency-only-requires c κs = search needs
-
-settled-requires : tie.Need-settled-requires
-settled-requires c κs = search needs
+sent-requires : tie.Need-sent-requires
+sent-requires c κs = search needs
 
 returns : tie.Need-returns
 returns c =
-    let a = c .before .before .before .before .before .before .before .before .before .before in
+    let a = c .before .before .before .before .before .before .before .before in
     rw (
-      c .settled .ensures,
-      c .before .emergency-only .ensures,
-      c .before .before .after .ensures,
-      c .before .before .before .frame .ensures,
-      c .before .before .before .before .waits .ensures,
-      c .before .before .before .before .before .before .first .ensures,
+      c .sent .ensures,
+      c .before .after .ensures,
+      c .before .before .frame .ensures,
+      c .before .before .before .waits .ensures,
+      c .before .before .before .before .first .ensures,
     )
-    (sends-first (a .args .head) (a .pre) (c .before .before .before .before .before .taken .ensures))
+    (sends-first (a .args .head) (a .pre))
 
 pub slot-spec : {M : Type 1} → statement M
 slot-spec =
     tie.close
-    (tie.spec
-    first-requires
-    taken-requires
-    waits-requires
-    frame-requires
-    after-requires
-    emergency-only-requires
-    settled-requires
-    returns)
+    (tie.spec first-requires waits-requires frame-requires after-requires sent-requires returns)
