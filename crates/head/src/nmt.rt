@@ -1,8 +1,8 @@
 //! NMT: the commands, and the states that they and the boot-up frame enter.
 ghost use mathlib.Core.Path.{_≡_};
-ghost use mathlib.Core.Bool.{false};
-ghost use Rattle.promises.specs.States.{commandOf, resetCommand};
-ghost use Rattle.promises.specs.Acts.{booted as bootedCore, entered as enteredCore, entryMoments, resetWith, emergencyOnly, settledTo, act};
+ghost use mathlib.Core.Bool.{false, cond};
+ghost use Rattle.promises.specs.States.{preOperational, state as stateOf, commandOf, resetCommand};
+ghost use Rattle.promises.specs.Acts.{entered as enteredCore, entryMoments, resetWith, emergencyOnly, settledTo, act};
 ghost use Rattle.promises.specs.Calls.{commanded as commandedBy};
 ghost use Rattle.head.specs.Steps.{entering};
 use can::Received;
@@ -143,13 +143,11 @@ fn reset_to(core: Core, settings: Settings) -> Core
 }
 
 // The slot that sends the boot-up frame enters Pre-operational.
-pub fn booted(core: Core) -> Core
-    ensures { λ r. ⌜ r ≡ bootedCore core ⌝ }
+pub fn booted(boots: bool, state: Nmt) -> Nmt
+    ensures { λ r. ⌜ r ≡ cond boots (stateOf preOperational) state ⌝ }
 {
-    let pre_operational = Nmt::PRE_OPERATIONAL;
-    let timers = time::at_rest();
-    let mut next = core;
-    next.nmt = pre_operational;
-    next.timers = timers;
-    next
+    if boots {
+        return Nmt::PRE_OPERATIONAL;
+    }
+    state
 }

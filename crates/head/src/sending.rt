@@ -9,14 +9,16 @@ ghost use Rattle.promises.specs.States.{initialisingCode};
 ghost use Rattle.promises.specs.WaitingLine.{Kind, frame as frameWith, frameOf};
 ghost use Rattle.promises.specs.Acts.{acted, frameBy};
 ghost use Rattle.promises.specs.Calls.{sentBy, frameIn};
-ghost use Rattle.head.specs.Steps.{pdoOf, sendable};
+ghost use Rattle.head.specs.Steps.{pdoOf, sendable, sentTimers};
 use crate::nmt;
 use can::Bytes;
 use can::Frame;
 use parts::Core;
 use parts::Nmt;
+use parts::Timers;
 use services::emergency;
 use services::state;
+use services::time;
 use waiting::EMERGENCY;
 use waiting::HEARTBEAT;
 use waiting::SDO_REPLY;
@@ -37,19 +39,33 @@ pub fn waits(state: Nmt, kind: u8) -> bool
     state::is_initialising(state) | (kind != NO_KIND)
 }
 
-// The core once the frame is sent.
+// The core once the frame is sent: only what the boot-up frame and the emergency alter is written.
 pub fn after(core: Core, kind: u8) -> Core
     requires { ⌜ core .device .settings .communication .inhibit ≤ 0xFFFF ⌝ }
     ensures { λ r. ⌜ r ≡ acted core (sentBy core kind) ⌝ }
 {
     let state = core.nmt;
-    if state::is_initialising(state) {
-        return nmt::booted(core);
+    let timers = core.timers;
+    let inhibit = core.device.settings.communication.inhibit;
+    let boots = state::is_initialising(state);
+    let announces = !boots & (kind == EMERGENCY);
+    let mut next = core;
+    next.nmt = nmt::booted(boots, state);
+    next.announced = emergency::announced(announces, core.device.reading.good, core.announced);
+    next.timers = timers_after(boots, announces, inhibit, timers);
+    next
+}
+
+fn timers_after(boots: bool, announces: bool, inhibit: u32, timers: Timers) -> Timers
+    requires { ⌜ inhibit ≤ 0xFFFF ⌝ }
+    ensures { λ r. ⌜ r ≡ sentTimers boots announces inhibit timers ⌝ }
+{
+    if boots {
+        return time::at_rest();
     }
-    if kind == EMERGENCY {
-        return emergency::announcing(core);
-    }
-    core
+    let mut next = timers;
+    next.inhibit = emergency::inhibited(announces, inhibit, timers.inhibit);
+    next
 }
 
 pub fn frame(core: Core, kind: u8) -> Frame

@@ -64,7 +64,8 @@ pub record Asked : Type 2 where
   pub services·state·same : AsksNothing services.state.same.ended services.state.same.Reads.Asked
   pub services·emergency·may : AsksNothing services.emergency.may.ended services.emergency.may.Reads.Asked
   pub services·emergency·bytes : AsksNothing services.emergency.bytes.ended services.emergency.bytes.Reads.Asked
-  pub services·emergency·announcing : AsksOnly services.emergency.announcing.ended (λ κs a. a .0 .device .settings .communication .inhibit ≤ 0xFFFF) services.emergency.announcing.Reads.Asked
+  pub services·emergency·announced : AsksNothing services.emergency.announced.ended services.emergency.announced.Reads.Asked
+  pub services·emergency·inhibited : AsksOnly services.emergency.inhibited.ended (λ κs a. a .1 .0 ≤ 0xFFFF) services.emergency.inhibited.Reads.Asked
   pub services·heartbeat·may : AsksNothing services.heartbeat.may.ended services.heartbeat.may.Reads.Asked
   pub services·tpdo·is-synchronous : AsksNothing services.tpdo.is_synchronous.ended services.tpdo.is_synchronous.Reads.Asked
   pub services·tpdo·may : AsksNothing services.tpdo.may.ended services.tpdo.may.Reads.Asked
@@ -83,11 +84,14 @@ pub record Asked : Type 2 where
   pub services·time·due : AsksNothing services.time.due.ended services.time.due.Reads.Asked
   pub services·settle·emergency-only : AsksNothing services.settle.emergency_only.ended services.settle.emergency_only.Reads.Asked
   pub services·settle·settled : AsksNothing services.settle.settled.ended services.settle.settled.Reads.Asked
+  pub services·settle·sent : AsksNothing services.settle.sent.ended services.settle.sent.Reads.Asked
   pub head·power-up : AsksNothing head.power_up.ended head.power_up.Reads.Asked
   -- Every head comes from power-up and is altered by calls only; the promises are for such heads.
   pub head·receive : AsksOnly head.receive.ended (λ κs a. Reachable (a .0)) head.receive.Reads.Asked
   pub head·tick : AsksOnly head.tick.ended (λ κs a. Reachable (a .0)) head.tick.Reads.Asked
   pub head·sample : AsksOnly head.sample.ended (λ κs a. Reachable (a .0)) head.sample.Reads.Asked
+  pub head·missing : AsksOnly head.missing.ended (λ κs a. Reachable (a .0)) head.missing.Reads.Asked
+  pub head·read : AsksOnly head.read.ended (λ κs a. Reachable (a .0)) head.read.Reads.Asked
   pub head·slot : AsksOnly head.slot.ended (λ κs a. Reachable (a .0)) head.slot.Reads.Asked
   pub lent·haybleater-power-up : AsksNothingOf lent.haybleater_power_up.ended (λ M. lent.haybleater_power_up.clauses {M = M})
   pub lent·haybleater-receive : AsksOnlyOf lent.haybleater_receive.ended (λ κs a. Reachable (now (a .0))) (λ κs a. Valid (now (a .0))) (λ M. lent.haybleater_receive.clauses {M = M})

@@ -62,7 +62,8 @@ pub record Outcomes : Type 2 where
   pub services·state·same : OneOutcome services.state.same.ended services.state.same.Reads.Learnt
   pub services·emergency·may : OneOutcome services.emergency.may.ended services.emergency.may.Reads.Learnt
   pub services·emergency·bytes : OneOutcome services.emergency.bytes.ended services.emergency.bytes.Reads.Learnt
-  pub services·emergency·announcing : OneOutcome services.emergency.announcing.ended services.emergency.announcing.Reads.Learnt
+  pub services·emergency·announced : OneOutcome services.emergency.announced.ended services.emergency.announced.Reads.Learnt
+  pub services·emergency·inhibited : OneOutcome services.emergency.inhibited.ended services.emergency.inhibited.Reads.Learnt
   pub services·heartbeat·may : OneOutcome services.heartbeat.may.ended services.heartbeat.may.Reads.Learnt
   pub services·tpdo·is-synchronous : OneOutcome services.tpdo.is_synchronous.ended services.tpdo.is_synchronous.Reads.Learnt
   pub services·tpdo·may : OneOutcome services.tpdo.may.ended services.tpdo.may.Reads.Learnt
@@ -81,10 +82,13 @@ pub record Outcomes : Type 2 where
   pub services·time·due : OneOutcome services.time.due.ended services.time.due.Reads.Learnt
   pub services·settle·emergency-only : OneOutcome services.settle.emergency_only.ended services.settle.emergency_only.Reads.Learnt
   pub services·settle·settled : OneOutcome services.settle.settled.ended services.settle.settled.Reads.Learnt
+  pub services·settle·sent : OneOutcome services.settle.sent.ended services.settle.sent.Reads.Learnt
   pub head·power-up : OneOutcome head.power_up.ended head.power_up.Reads.Learnt
   pub head·receive : OneOutcome head.receive.ended head.receive.Reads.Learnt
   pub head·tick : OneOutcome head.tick.ended head.tick.Reads.Learnt
   pub head·sample : OneOutcome head.sample.ended head.sample.Reads.Learnt
+  pub head·missing : OneOutcome head.missing.ended head.missing.Reads.Learnt
+  pub head·read : OneOutcome head.read.ended head.read.Reads.Learnt
   pub head·slot : OneOutcome head.slot.ended head.slot.Reads.Learnt
   pub lent·haybleater-power-up : OneOutcomeOf lent.haybleater_power_up.ended (λ κs a r e. PowersUp (a .1 .0) (a .1 .1 .0) (answered r (now (e .0)))) (λ M. lent.haybleater_power_up.clauses {M = M})
   pub lent·haybleater-receive : OneOutcomeOf lent.haybleater_receive.ended (λ κs a r e. Receives (now (a .0)) (a .1 .0) (answered r (now (e .0)))) (λ M. lent.haybleater_receive.clauses {M = M})

@@ -1,14 +1,13 @@
 //! The emergency: when it waits, what it says, and the inhibit time that it starts.
 ghost use mathlib.Core.Path.{_≡_};
 ghost use Prim.Native.Nat.{_≤_};
+ghost use mathlib.Core.Bool.{cond};
 ghost use Rattle.cases.specs.Padded.{pad};
 ghost use Rattle.promises.specs.WaitingLine.{mayAlert, emergencyBytes};
 ghost use Rattle.promises.specs.Timers.{inhibitTicks};
-ghost use Rattle.promises.specs.Acts.{announcing as announcingOf};
 use crate::state;
 use can::Bytes;
 use dictionary::accept::is_on;
-use parts::Core;
 use parts::Nmt;
 
 // 1015h counts units of 100 µs, a tick is 1 ms.
@@ -29,16 +28,19 @@ pub fn bytes(good: bool) -> Bytes
     [0x00, 0x50, 0x01, 0, 0, 0, 0, 0]
 }
 
-// The core once an emergency is sent.
-pub fn announcing(core: Core) -> Core
-    requires { ⌜ core .device .settings .communication .inhibit ≤ 0xFFFF ⌝ }
-    ensures { λ r. ⌜ r ≡ announcingOf core ⌝ }
+// What is announced, once an emergency is sent or not.
+pub fn announced(sent: bool, good: bool, announced: bool) -> bool
+    ensures { λ r. ⌜ r ≡ cond sent good announced ⌝ }
 {
-    let inhibit = inhibit_ticks(core.device.settings.communication.inhibit);
-    let mut next = core;
-    next.announced = core.device.reading.good;
-    next.timers.inhibit = inhibit;
-    next
+    if sent { good } else { announced }
+}
+
+// The inhibit time's ticks left, once an emergency is sent or not.
+pub fn inhibited(sent: bool, inhibit: u32, left: u32) -> u32
+    requires { ⌜ inhibit ≤ 0xFFFF ⌝ }
+    ensures { λ r. ⌜ r ≡ cond sent (inhibitTicks inhibit) left ⌝ }
+{
+    if sent { inhibit_ticks(inhibit) } else { left }
 }
 
 fn inhibit_ticks(inhibit: u32) -> u32

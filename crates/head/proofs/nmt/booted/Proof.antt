@@ -1,13 +1,12 @@
--- `nmt::booted` meets its contract, by that of `at_rest`.
-use borrow.Author.Needs.{needs}
+-- `nmt::booted` meets its contract, by its test.
 use Rattle.head.proofs.nmt.booted.Statement.{statement}
 use Rattle.head.proofs.nmt.booted.Tie as tie
 
-at-rest-requires : tie.Need-at-rest-requires
-at-rest-requires c κs = search needs
-
 returns : tie.Need-returns
-returns c = rw (c .at-rest .ensures)
+returns c = rw (c .if1 .taken)
+
+returns-2 : tie.Need-returns-2
+returns-2 c = rw (c .if1 .left)
 
 pub booted-spec : {M : Type 1} → statement M
-booted-spec = tie.close (tie.spec at-rest-requires returns)
+booted-spec = tie.close (tie.spec returns returns-2)
