@@ -2,7 +2,7 @@
 use Prim.Native.Nat.{ℕ, _<_, _≤_}
 use lib.Dec.{eqb}
 use mathlib.Core.Path.{_≡_, refl, sym, ap, subst, _∙_}
-use mathlib.Core.Bool.{true, false, not, _||_}
+use mathlib.Core.Bool.{Bool, true, false, not, _||_, cond}
 use borrow.Author.Tests.{lt-ltb, le-ltb, leb-true}
 use native.Mathlib.Omega.{arith}
 use Rattle.can.specs.declared.Received.{Received}
@@ -17,11 +17,11 @@ use Rattle.parts.specs.declared.Sent.{Sent}
 use Rattle.parts.specs.declared.Sensor.the-variants.{Missing, Raw}
 use Rattle.promises.specs.States.{operational, isIn, isInitialising, communication, started}
 use Rattle.promises.specs.Timers.{timersTicked}
-use Rattle.promises.specs.Acts.{take, lose, time, acted, timing, timeMoments, emergencyOnly, settledTo, act, frameBy}
+use Rattle.promises.specs.Acts.{nothing, take, lose, time, acted, timing, timeMoments, emergencyOnly, settledTo, act, frameBy}
 use Rattle.promises.specs.Calls.{Call, receive, tick, sample, slot, timed, sampledAs, sentBy, step, answered, noIdentity, poweredUp, received, ticked, sampled, frameIn, slotted}
 use Rattle.promises.specs.Valid.{Valid}
+use Rattle.head.specs.Steps.{nobody}
 use Rattle.promises.proofs.Nothing.{act-nothing}
-use Rattle.head.proofs.CommandTests.{none-acts}
 use Rattle.promises.proofs.Valid.{valid-step, valid-started}
 use Rattle.head.proofs.SlotTests.{slot-waits, slot-settles}
 
@@ -39,12 +39,18 @@ module _ (h : Head) (v : Valid h) where
   pub receives : (f : Received) {n : ℕ} {r : Head} → n ≡ refusalOf f → r ≡ step h (receive f) → (answered n r ≡ received h f) × Valid r
   receives f e p = rw (e, p) (refl, valid-step h (receive f) v)
 
-  pub ticks-idle : isInitialising (h .core) ≡ true → (h ≡ ticked h) × Valid h
-  ticks-idle e = (none-acts h _ (rw e), v)
+  abbrev after-tick : Bool → Head
+  after-tick stands =
+      let c = h .core in
+      settledTo false h (timing c (cond stands (c .timers) (timersTicked (isIn operational c) (communication c) (c .timers)))) (cond stands nobody (timeMoments (communication c) (c .timers)))
 
-  pub ticks-on : isInitialising (h .core) ≡ false → let r = settledTo false h (timing (h .core) (timersTicked (isIn operational (h .core)) (communication (h .core)) (h .core .timers))) (timeMoments (communication (h .core)) (h .core .timers)) in (r ≡ ticked h) × Valid r
+  ticks-as : (stands : Bool) → timed (h .core) ≡ cond stands nothing time → (after-tick stands ≡ ticked h) × Valid (after-tick stands)
   unfolding act
-  ticks-on e = let m : timed (h .core) ≡ time = rw e in let p = sym (ap (act false h) m) in (p, leaves tick p)
+  ticks-as true m = let p = sym (ap (act false h) m) in (p, leaves tick p)
+  ticks-as false m = let p = sym (ap (act false h) m) in (p, leaves tick p)
+
+  pub ticks : let r = after-tick (isInitialising (h .core)) in (r ≡ ticked h) × Valid r
+  ticks = ticks-as (isInitialising (h .core)) refl
 
   pub loses : {r : Head} → r ≡ act false h lose → (answered 0 r ≡ sampled h Missing) × Valid r
   loses p = (ap (answered 0) p, leaves (sample Missing) p)

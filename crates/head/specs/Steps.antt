@@ -15,9 +15,15 @@ use Rattle.parts.specs.declared.Nmt.{Nmt}
 use Rattle.parts.specs.declared.Timers.{Timers}
 use Rattle.parts.specs.declared.Core.{Core}
 use Rattle.parts.specs.declared.Head.{Head}
+use Rattle.parts.specs.declared.Flags.{Flags}
 use Rattle.promises.specs.States.{preOperational, state, Which, one, two, communication, good, atRest}
+use Rattle.promises.specs.WaitingLine.{flags}
 use Rattle.promises.specs.Timers.{inhibitTicks}
 use Rattle.promises.specs.Acts.{core, inhibited, entered, entryMoments, settledTo}
+
+-- nobody's moment
+abbrev pub nobody : Flags
+nobody = flags false false false false false
 
 abbrev pub entering : Head → Nmt → Head
 entering h s = cond (eqb (h .core .nmt .code) (s .code)) h (settledTo false h (entered (h .core) s) (entryMoments (communication (h .core)) s))

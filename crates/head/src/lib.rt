@@ -1,12 +1,13 @@
 //! The head by value: power-up, frame received, tick, sample, slot.
 ghost use mathlib.Core.Path.{_≡_};
-ghost use mathlib.Core.Bool.{false};
+ghost use mathlib.Core.Bool.{false, cond};
 ghost use Rattle.position.specs.Profile.{ValidProfile};
 ghost use Rattle.promises.specs.States.{started as startedHead};
 ghost use Rattle.promises.specs.Acts.{act};
 ghost use Rattle.parts.specs.declared.Sensor.the-variants.{Missing, Raw};
 ghost use Rattle.promises.specs.Calls.{heardUnrefused as heardAs, answered};
 ghost use Rattle.promises.specs.Valid.{Valid};
+ghost use Rattle.head.specs.Steps.{nobody};
 ghost use Rattle.promises.specs.Promised.{PowersUp, Receives, Ticks, Samples, Slots};
 use can::Received;
 use entries::Device;
@@ -15,10 +16,12 @@ use entries::Reading;
 use entries::Settings;
 use parts::Answer;
 use parts::Core;
+use parts::Flags;
 use parts::Head;
 use parts::Nmt;
 use parts::Sensor;
 use parts::Sent;
+use parts::Timers;
 use services::settle;
 use services::state;
 use services::time;
@@ -124,15 +127,38 @@ pub fn tick(head: Head) -> Head
     requires { ⌜ Valid head ⌝ }
     ensures { λ r. ⌜ Ticks head r ⌝ }
 {
-    let state = head.core.nmt;
-    if state::is_initialising(state) {
-        return head;
-    }
     let core = head.core;
+    let state = core.nmt;
     let settings = core.device.settings.communication;
     let timers = core.timers;
-    let runs = time::ticked(state::is_operational(state), settings, timers);
-    settle::settled(head, time::timed(core, runs), time::due(settings, timers))
+    let stands = state::is_initialising(state);
+    let ticked = time::ticked(state::is_operational(state), settings, timers);
+    let runs = unless(stands, timers, ticked);
+    let due = nobody_if(stands, time::due(settings, timers));
+    settle::settled(head, time::timed(core, runs), due)
+}
+
+// In Initialising timers stand,
+fn unless(stands: bool, timers: Timers, ticked: Timers) -> Timers
+    ensures { λ r. ⌜ r ≡ cond stands timers ticked ⌝ }
+{
+    if stands { timers } else { ticked }
+}
+
+// and a tick is nobody's moment.
+fn nobody_if(stands: bool, due: Flags) -> Flags
+    ensures { λ r. ⌜ r ≡ cond stands nobody due ⌝ }
+{
+    if stands {
+        return Flags {
+            emergency: false,
+            reply: false,
+            heartbeat: false,
+            tpdo1: false,
+            tpdo2: false,
+        };
+    }
+    due
 }
 
 // A raw position, or "missing". A raw position above 1,048,575 is refused with 3.
