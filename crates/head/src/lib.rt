@@ -36,7 +36,7 @@ pub const BAD_SAMPLE: u8 = 3;
 
 pub const BAD_NODE: u8 = 4;
 
-const HIGHEST_RAW: u32 = 1_048_575;
+pub const HIGHEST_RAW: u32 = 1_048_575;
 
 // Initialising, with factory settings, the reading missing. A node number that is not 1..127 is refused with 4,
 // and the head is then of node 1 with identity numbers 0.

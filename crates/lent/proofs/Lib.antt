@@ -6,5 +6,4 @@ pub mod Questions
 pub mod Rows
 pub mod Thin
 pub mod Thin0
-pub mod Thin1
 pub mod Unmoved

@@ -5,7 +5,7 @@ use mathlib.Core.Path.{_≡_, refl, sym, ap, _∙_}
 use mathlib.Core.Bool.{Bool, true, false, not, _||_, and-not-self}
 use mathlib.Core.List.{[]}
 use mathlib.Core.Option.{none}
-use borrow.Author.Tests.{eqb-true}
+use borrow.Author.Tests.{eqb-true, ltb-true, not-true, not-false}
 use Rattle.cases.specs.Padded.{pad}
 use Rattle.cases.proofs.Cases.{test, true-false, neither}
 use Rattle.can.specs.declared.Received.{Received}
@@ -16,12 +16,14 @@ use Rattle.waiting.specs.Calls.{afterIn}
 use Rattle.waiting.specs.Places.{waiting}
 use Rattle.waiting.proofs.Holds.{holds-idle}
 use Rattle.parts.specs.declared.Head.{Head}
+use Rattle.parts.specs.declared.Sensor.the-variants.{Raw}
 use Rattle.promises.specs.States.{isInitialising, node}
 use Rattle.promises.specs.WaitingLine.{emergency, may}
 use Rattle.promises.specs.Acts.{Act, nothing, idle, frameBy, emergencyOnly, goes, comes, settledTo, act}
-use Rattle.promises.specs.Calls.{receive, slot, heard, meant, step, answered, sentWith, slotted}
+use Rattle.promises.specs.Calls.{receive, slot, heard, meant, step, badSample, answered, sentWith, slotted}
 use Rattle.promises.specs.Valid.{Valid}
-use Rattle.promises.specs.Promised.{Receives, Slots}
+use Rattle.promises.specs.Promised.{Receives, Samples, Slots}
+use Rattle.head.proofs.CallTests.{refuses}
 use Rattle.head.proofs.CommandTests.{none-acts}
 use Rattle.head.proofs.SlotTests.{slot-waits}
 use Rattle.lent.specs.declared.Due.{Due}
@@ -58,14 +60,6 @@ module _ (h : Head) (v : Valid h) (e : first (h .line) ≡ 0) where
       let m : meant h slot ≡ idle = rw (i, e) in
       ap (λ (a : Act). sentWith (frameBy (h .core) a) (act true h a)) m ∙ ap (sentWith none) idles
 
-not-true : (b : Bool) → not b ≡ true → b ≡ false
-not-true true x = true-false (sym x)
-not-true false x = refl
-
-not-false : (b : Bool) → not b ≡ false → b ≡ true
-not-false true x = refl
-not-false false x = true-false x
-
 holds-true : (b : Bool) → Holds b → b ≡ true
 holds-true true x = refl
 
@@ -96,3 +90,6 @@ module _ (h : Head) (f : Received) where
 
   pub rests : Valid h → {y : Bool} {n : ℕ} → Holds y → y ≡ passesBy h f → n ≡ refusalOf f → Receives h f (answered n h)
   rests v t y n = (rw n (ap (answered (refusalOf f)) (passed (sym y ∙ holds-true _ t))), v)
+
+pub sample-rests : (h : Head) (raw : ℕ) → Valid h → {y : Bool} {n : ℕ} → Holds y → y ≡ badSample (Raw raw) → n ≡ 3 → Samples h (Raw raw) (answered n h)
+sample-rests h raw v t e n = rw n (refuses h v raw (ltb-true 1048575 raw (sym e ∙ holds-true _ t)))

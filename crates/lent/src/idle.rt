@@ -1,6 +1,8 @@
 //! The calls that leave the head alone: a host makes them all the time, so they answer without handing it over.
 ghost use mathlib.Core.Path.{_≡_};
 ghost use mathlib.Core.Bool.{not};
+ghost use Rattle.parts.specs.declared.Sensor.the-variants.{Raw};
+ghost use Rattle.promises.specs.Calls.{badSample};
 ghost use Rattle.lent.specs.Unmoved.{passesBy, noDue};
 ghost use Rattle.lent.specs.Questions.{anyWaits};
 use crate::Due;
@@ -47,4 +49,17 @@ pub fn none() -> Due
             bytes: [0, 0, 0, 0, 0, 0, 0, 0],
         },
     }
+}
+
+// Whether a raw position is refused, whatever the head.
+pub fn beyond(_head: Head, raw: u32) -> bool
+    ensures { λ r. ⌜ r ≡ badSample (Raw raw) ⌝ }
+{
+    head::HIGHEST_RAW < raw
+}
+
+pub fn refused(_raw: u32) -> u8
+    ensures { λ r. ⌜ r ≡ 3 ⌝ }
+{
+    head::BAD_SAMPLE
 }

@@ -14,7 +14,6 @@ use parts::Head;
 
 mod idle;
 mod question;
-mod step;
 
 // The frame to send, if one waited; it is all 0 otherwise, and not to be sent.
 #[repr(C)]
@@ -66,7 +65,10 @@ pub extern "C" fn haybleater_sample(head: &mut Head, raw: u32) -> u8
     requires { ⌜ Valid (now head) ⌝ }
     ensures { λ n. ⌜ Samples (now (head .entry)) (Raw raw) (answered n (now (head .exit))) ⌝ }
 {
-    let answer = step::sampled(*head, raw);
+    if idle::beyond(*head, raw) {
+        return idle::refused(raw);
+    }
+    let answer = head::read(*head, raw);
     *head = answer.head;
     answer.refusal
 }
@@ -76,7 +78,7 @@ pub extern "C" fn haybleater_missing(head: &mut Head)
     requires { ⌜ Valid (now head) ⌝ }
     ensures { λ _. ⌜ Samples (now (head .entry)) Missing (answered 0 (now (head .exit))) ⌝ }
 {
-    *head = step::missing(*head);
+    *head = head::missing(*head);
 }
 
 #[no_mangle]
