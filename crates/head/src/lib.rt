@@ -138,14 +138,14 @@ pub fn tick(head: Head) -> Head
     settle::settled(head, time::timed(core, runs), due)
 }
 
-// In Initialising timers stand,
+// In Initialising timers stand.
 fn unless(stands: bool, timers: Timers, ticked: Timers) -> Timers
     ensures { λ r. ⌜ r ≡ cond stands timers ticked ⌝ }
 {
     if stands { timers } else { ticked }
 }
 
-// and a tick is nobody's moment.
+// In Initialising a tick is nobody's moment.
 fn nobody_if(stands: bool, due: Flags) -> Flags
     ensures { λ r. ⌜ r ≡ cond stands nobody due ⌝ }
 {
