@@ -36,6 +36,13 @@ pub const BAD_SAMPLE: u8 = 3;
 
 pub const BAD_NODE: u8 = 4;
 
+// The identifiers that the head hears; a request's is this and its node number.
+pub const COMMAND: u32 = 0x000;
+
+pub const SYNC: u32 = 0x080;
+
+pub const REQUEST: u32 = 0x600;
+
 pub const HIGHEST_RAW: u32 = 1_048_575;
 
 // Initialising, with factory settings, the reading missing. A node number that is not 1..127 is refused with 4,
@@ -110,13 +117,13 @@ fn heard(head: Head, frame: Received) -> Head
     if frame.extended | frame.remote | state::is_initialising(state) {
         return head;
     }
-    if frame.identifier == nmt::COMMAND {
+    if frame.identifier == COMMAND {
         return nmt::commanded(head, frame);
     }
-    if frame.identifier == sync::SYNC {
+    if frame.identifier == SYNC {
         return sync::synchronised(head, frame.length);
     }
-    if frame.identifier == service::REQUEST + head.core.device.node as u32 {
+    if frame.identifier == REQUEST + head.core.device.node as u32 {
         return service::requested(head, frame);
     }
     head

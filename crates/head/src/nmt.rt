@@ -18,8 +18,6 @@ use services::state;
 use services::time;
 use services::tpdo;
 
-pub const COMMAND: u32 = 0x000;
-
 const COMMAND_LENGTH: u8 = 2;
 
 const START: u8 = 0x01;

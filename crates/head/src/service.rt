@@ -26,8 +26,6 @@ use services::state;
 use services::time;
 use services::tpdo;
 
-pub const REQUEST: u32 = 0x600;
-
 const REQUEST_LENGTH: u8 = 8;
 
 pub fn requested(head: Head, frame: Received) -> Head

@@ -13,8 +13,6 @@ use services::state;
 use services::time;
 use services::tpdo;
 
-pub const SYNC: u32 = 0x080;
-
 const MOST_LENGTH: u8 = 1;
 
 pub fn synchronised(head: Head, length: u8) -> Head

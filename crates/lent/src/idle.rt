@@ -12,12 +12,6 @@ use can::Received;
 use parts::Head;
 use services::state;
 
-const COMMAND: u32 = 0x000;
-
-const SYNC: u32 = 0x080;
-
-const REQUEST: u32 = 0x600;
-
 // Whether a frame is refused or not meant for the head.
 pub fn passes(head: Head, frame: Received) -> bool
     ensures { λ r. ⌜ r ≡ passesBy head frame ⌝ }
@@ -26,9 +20,9 @@ pub fn passes(head: Head, frame: Received) -> bool
     let identifier = frame.identifier;
     let refused = can::refusal(frame) != can::NO_REFUSAL;
     let unheard = frame.extended | frame.remote | state::is_initialising(state);
-    let meant = (identifier == COMMAND)
-        | (identifier == SYNC)
-        | (identifier == REQUEST + head.core.device.node as u32);
+    let meant = (identifier == head::COMMAND)
+        | (identifier == head::SYNC)
+        | (identifier == head::REQUEST + head.core.device.node as u32);
     refused | unheard | !meant
 }
 
