@@ -3,3 +3,4 @@ pub mod RequestTests
 pub mod FrameTests
 pub mod SlotTests
 pub mod CallTests
+pub mod Passing

@@ -8,6 +8,7 @@ ghost use Rattle.parts.specs.declared.Sensor.the-variants.{Missing, Raw};
 ghost use Rattle.promises.specs.Calls.{heardUnrefused as heardAs, answered};
 ghost use Rattle.promises.specs.Valid.{Valid};
 ghost use Rattle.head.specs.Steps.{nobody};
+ghost use Rattle.head.specs.Passing.{concerns as concernsBy, passesBy};
 ghost use Rattle.promises.specs.Promised.{PowersUp, Receives, Ticks, Samples, Slots};
 use can::Received;
 use entries::Device;
@@ -37,11 +38,11 @@ pub const BAD_SAMPLE: u8 = 3;
 pub const BAD_NODE: u8 = 4;
 
 // The identifiers that the head hears; a request's is this and its node number.
-pub const COMMAND: u32 = 0x000;
+const COMMAND: u32 = 0x000;
 
-pub const SYNC: u32 = 0x080;
+const SYNC: u32 = 0x080;
 
-pub const REQUEST: u32 = 0x600;
+const REQUEST: u32 = 0x600;
 
 pub const HIGHEST_RAW: u32 = 1_048_575;
 
@@ -107,6 +108,26 @@ pub fn receive(head: Head, frame: Received) -> Answer
         refusal,
         head: heard(head, frame),
     }
+}
+
+// Whether a frame leaves the head alone: refused, not meant for it, or a command that does nothing.
+pub fn passes(head: Head, frame: Received) -> bool
+    ensures { λ r. ⌜ r ≡ passesBy head frame ⌝ }
+{
+    let state = head.core.nmt;
+    let refused = can::refusal(frame) != can::NO_REFUSAL;
+    let unheard = frame.extended | frame.remote | state::is_initialising(state);
+    refused | unheard | !concerns(head, frame)
+}
+
+fn concerns(head: Head, frame: Received) -> bool
+    ensures { λ r. ⌜ r ≡ concernsBy head frame ⌝ }
+{
+    let identifier = frame.identifier;
+    if identifier == COMMAND {
+        return nmt::obeyed(head, frame);
+    }
+    (identifier == SYNC) | (identifier == REQUEST + head.core.device.node as u32)
 }
 
 fn heard(head: Head, frame: Received) -> Head

@@ -1,10 +1,11 @@
 //! NMT: the commands, and the states that they and the boot-up frame enter.
 ghost use mathlib.Core.Path.{_≡_};
 ghost use mathlib.Core.Bool.{false, cond};
-ghost use Rattle.promises.specs.States.{preOperational, state as stateOf, commandOf, resetCommand};
+ghost use Rattle.promises.specs.States.{command as commandIn, preOperational, state as stateOf, commandOf, resetCommand};
 ghost use Rattle.promises.specs.Acts.{entered as enteredCore, entryMoments, resetWith, emergencyOnly, settledTo, act};
 ghost use Rattle.promises.specs.Calls.{commanded as commandedBy};
 ghost use Rattle.head.specs.Steps.{entering};
+ghost use Rattle.head.specs.Passing.{acts as actsOn, obeyed as obeyedBy};
 use can::Received;
 use entries::Communication;
 use entries::Settings;
@@ -50,6 +51,31 @@ pub fn commanded(head: Head, frame: Received) -> Head
         return enter(head, Nmt::PRE_OPERATIONAL);
     }
     restart(head, command)
+}
+
+// Whether a command does something: one to this node that names another state, or a reset.
+pub fn obeyed(head: Head, frame: Received) -> bool
+    ensures { λ r. ⌜ r ≡ obeyedBy head frame ⌝ }
+{
+    let bytes = frame.bytes;
+    let named = bytes[1];
+    let addressed = (named == 0) | (named == head.core.device.node);
+    (frame.length == COMMAND_LENGTH) & addressed & acts(head.core.nmt.code, bytes[0])
+}
+
+fn acts(code: u8, command: u8) -> bool
+    ensures { λ r. ⌜ r ≡ actsOn code (commandIn command) ⌝ }
+{
+    if command == START {
+        return code != Nmt::OPERATIONAL.code;
+    }
+    if command == STOP {
+        return code != Nmt::STOPPED.code;
+    }
+    if command == ENTER_PRE_OPERATIONAL {
+        return code != Nmt::PRE_OPERATIONAL.code;
+    }
+    (command == RESET_NODE) | (command == RESET_COMMUNICATION)
 }
 
 fn restart(head: Head, command: u8) -> Head

@@ -1,8 +1,8 @@
 -- A call that leaves the head alone answers as the call by value does.
-use Prim.Native.Nat.{ℕ, _+_}
-use lib.Dec.{eqb, T as Holds}
+use Prim.Native.Nat.{ℕ}
+use lib.Dec.{T as Holds}
 use mathlib.Core.Path.{_≡_, refl, sym, ap, _∙_}
-use mathlib.Core.Bool.{Bool, true, false, not, _||_, and-not-self}
+use mathlib.Core.Bool.{Bool, true, false, not, and-not-self}
 use mathlib.Core.List.{[]}
 use mathlib.Core.Option.{none}
 use borrow.Author.Tests.{eqb-true, ltb-true, not-true, not-false}
@@ -17,19 +17,20 @@ use Rattle.waiting.specs.Places.{waiting}
 use Rattle.waiting.proofs.Holds.{holds-idle}
 use Rattle.parts.specs.declared.Head.{Head}
 use Rattle.parts.specs.declared.Sensor.the-variants.{Raw}
-use Rattle.promises.specs.States.{isInitialising, node}
+use Rattle.promises.specs.States.{isInitialising}
 use Rattle.promises.specs.WaitingLine.{emergency, may}
-use Rattle.promises.specs.Acts.{Act, nothing, idle, frameBy, emergencyOnly, goes, comes, settledTo, act}
-use Rattle.promises.specs.Calls.{receive, slot, heard, meant, step, badSample, answered, sentWith, slotted}
+use Rattle.promises.specs.Acts.{Act, idle, frameBy, emergencyOnly, goes, comes, settledTo, act}
+use Rattle.promises.specs.Calls.{slot, meant, badSample, answered, sentWith, slotted}
 use Rattle.promises.specs.Valid.{Valid}
 use Rattle.promises.specs.Promised.{Receives, Samples, Slots}
 use Rattle.head.proofs.CallTests.{refuses}
-use Rattle.head.proofs.CommandTests.{none-acts}
+use Rattle.head.specs.Passing.{passesBy}
+use Rattle.head.proofs.Passing.{passed}
 use Rattle.head.proofs.SlotTests.{slot-waits}
 use Rattle.lent.specs.declared.Due.{Due}
 use Rattle.lent.specs.Questions.{anyWaits}
 use Rattle.lent.specs.Steps.{sentAs}
-use Rattle.lent.specs.Unmoved.{addressed, passesBy, noDue}
+use Rattle.lent.specs.Unmoved.{noDue}
 
 -- nothing waits, so nothing leaves, and the emergency, which alone could join, may not
 module _ (h : Head) (v : Valid h) (e : first (h .line) ≡ 0) where
@@ -70,26 +71,8 @@ slot-rests h v {y} t e d =
 
 -- a frame that is refused or not meant for the head
 module _ (h : Head) (f : Received) where
-  abbrev Unheard : Bool
-  Unheard = f .extended || f .remote || isInitialising (h .core)
-
-  unmeant : passesBy h f ≡ true → heard h f ≡ nothing
-  unmeant p =
-      test (eqb (refusalOf f) 0)
-      (λ r. test Unheard (λ u. rw (r, u)) (λ u.
-      test (addressed h f)
-      (λ a. let no : passesBy h f ≡ false = rw (r, u, a) in true-false (sym p ∙ no))
-      (λ a.
-      let n = neither (eqb (f .identifier) 0x000 || eqb (f .identifier) 0x080) (eqb (f .identifier) (0x600 + node (h .core))) a in
-      let m = neither (eqb (f .identifier) 0x000) (eqb (f .identifier) 0x080) (n .0) in
-      rw (r, u, m .0, m .1, n .1))))
-      (λ r. rw r)
-
-  passed : passesBy h f ≡ true → h ≡ step h (receive f)
-  passed p = none-acts h (heard h f) (unmeant p)
-
   pub rests : Valid h → {y : Bool} {n : ℕ} → Holds y → y ≡ passesBy h f → n ≡ refusalOf f → Receives h f (answered n h)
-  rests v t y n = (rw n (ap (answered (refusalOf f)) (passed (sym y ∙ holds-true _ t))), v)
+  rests v t y n = (rw n (ap (answered (refusalOf f)) (passed h f (sym y ∙ holds-true _ t))), v)
 
 pub sample-rests : (h : Head) (raw : ℕ) → Valid h → {y : Bool} {n : ℕ} → Holds y → y ≡ badSample (Raw raw) → n ≡ 3 → Samples h (Raw raw) (answered n h)
 sample-rests h raw v t e n = rw n (refuses h v raw (ltb-true 1048575 raw (sym e ∙ holds-true _ t)))

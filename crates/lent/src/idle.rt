@@ -3,28 +3,12 @@ ghost use mathlib.Core.Path.{_≡_};
 ghost use mathlib.Core.Bool.{not};
 ghost use Rattle.parts.specs.declared.Sensor.the-variants.{Raw};
 ghost use Rattle.promises.specs.Calls.{badSample};
-ghost use Rattle.lent.specs.Unmoved.{passesBy, noDue};
+ghost use Rattle.lent.specs.Unmoved.{noDue};
 ghost use Rattle.lent.specs.Questions.{anyWaits};
 use crate::Due;
 use crate::question;
 use can::Frame;
-use can::Received;
 use parts::Head;
-use services::state;
-
-// Whether a frame is refused or not meant for the head.
-pub fn passes(head: Head, frame: Received) -> bool
-    ensures { λ r. ⌜ r ≡ passesBy head frame ⌝ }
-{
-    let state = head.core.nmt;
-    let identifier = frame.identifier;
-    let refused = can::refusal(frame) != can::NO_REFUSAL;
-    let unheard = frame.extended | frame.remote | state::is_initialising(state);
-    let meant = (identifier == head::COMMAND)
-        | (identifier == head::SYNC)
-        | (identifier == head::REQUEST + head.core.device.node as u32);
-    refused | unheard | !meant
-}
 
 pub fn empty(head: Head) -> bool
     ensures { λ r. ⌜ r ≡ not (anyWaits head) ⌝ }

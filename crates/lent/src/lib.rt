@@ -44,7 +44,7 @@ pub extern "C" fn haybleater_receive(head: &mut Head, frame: Received) -> u8
     requires { ⌜ Valid (now head) ⌝ }
     ensures { λ n. ⌜ Receives (now (head .entry)) frame (answered n (now (head .exit))) ⌝ }
 {
-    if idle::passes(*head, frame) {
+    if head::passes(*head, frame) {
         return can::refusal(frame);
     }
     let answer = head::receive(*head, frame);

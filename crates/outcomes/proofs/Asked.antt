@@ -71,6 +71,7 @@ asked =
       services·settle·sent = λ κs a. tt;
       head·power-up = λ κs a. tt;
       head·receive = λ κs a. valid-reachable (a .0);
+      head·passes = λ κs a. tt;
       head·tick = λ κs a. valid-reachable (a .0);
       head·sample = λ κs a. valid-reachable (a .0);
       head·missing = λ κs a. valid-reachable (a .0);

@@ -90,6 +90,7 @@ outcomes =
       services·settle·sent = λ κs a x y. same x y refl;
       head·power-up = λ κs a x y p q. same x y refl (p .0) (q .0);
       head·receive = λ κs a x y p q. same x y refl (p .0) (q .0);
+      head·passes = λ κs a x y. same x y refl;
       head·tick = λ κs a x y p q. same x y refl (p .0) (q .0);
       head·sample = λ κs a x y p q. same x y refl (p .0) (q .0);
       head·missing = λ κs a x y p q. same x y refl (ap (λ (r : Answer). r .head) (p .0)) (ap (λ (r : Answer). r .head) (q .0));

@@ -88,6 +88,7 @@ pub record Asked : Type 2 where
   pub head·power-up : AsksNothing head.power_up.ended head.power_up.Reads.Asked
   -- Every head comes from power-up and is altered by calls only; the promises are for such heads.
   pub head·receive : AsksOnly head.receive.ended (λ κs a. Reachable (a .0)) head.receive.Reads.Asked
+  pub head·passes : AsksNothing head.passes.ended head.passes.Reads.Asked
   pub head·tick : AsksOnly head.tick.ended (λ κs a. Reachable (a .0)) head.tick.Reads.Asked
   pub head·sample : AsksOnly head.sample.ended (λ κs a. Reachable (a .0)) head.sample.Reads.Asked
   pub head·missing : AsksOnly head.missing.ended (λ κs a. Reachable (a .0)) head.missing.Reads.Asked

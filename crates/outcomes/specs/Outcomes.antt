@@ -85,6 +85,7 @@ pub record Outcomes : Type 2 where
   pub services·settle·sent : OneOutcome services.settle.sent.ended services.settle.sent.Reads.Learnt
   pub head·power-up : OneOutcome head.power_up.ended head.power_up.Reads.Learnt
   pub head·receive : OneOutcome head.receive.ended head.receive.Reads.Learnt
+  pub head·passes : OneOutcome head.passes.ended head.passes.Reads.Learnt
   pub head·tick : OneOutcome head.tick.ended head.tick.Reads.Learnt
   pub head·sample : OneOutcome head.sample.ended head.sample.Reads.Learnt
   pub head·missing : OneOutcome head.missing.ended head.missing.Reads.Learnt
