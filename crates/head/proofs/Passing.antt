@@ -2,9 +2,9 @@
 use Prim.Native.Nat.{ℕ, _+_}
 use lib.Dec.{eqb}
 use mathlib.Core.Path.{_≡_, refl, sym, ap, _∙_}
-use mathlib.Core.Bool.{Bool, true, false, _&&_, _||_, cond}
+use mathlib.Core.Bool.{Bool, true, false, _&&_, _||_}
 use borrow.Author.Tests.{not-false}
-use Rattle.cases.proofs.Cases.{test, true-false, neither}
+use Rattle.cases.proofs.Cases.{test, true-false}
 use Rattle.can.specs.declared.Received.{Received}
 use Rattle.can.specs.Frame.{refusalOf}
 use Rattle.parts.specs.declared.Core.{Core}
@@ -12,7 +12,7 @@ use Rattle.parts.specs.declared.Head.{Head}
 use Rattle.promises.specs.States.{code, isInitialising, node, Command, noCommand, toEnter, toReset, command, resetCommand, byteOf, commandOf}
 use Rattle.promises.specs.Acts.{nothing}
 use Rattle.promises.specs.Calls.{receive, commanded, heard, step}
-use Rattle.head.specs.Passing.{acts, obeyed, concerns, passesBy}
+use Rattle.head.specs.Passing.{acts, obeyed, passesBy}
 use Rattle.head.proofs.CommandTests.{none-acts}
 
 pub resets-act : (n b : ℕ) → (eqb b 0x81 || eqb b 0x82) ≡ acts n (resetCommand b)
@@ -36,19 +36,18 @@ module _ (h : Head) (f : Received) where
   abbrev Unheard : Bool
   Unheard = f .extended || f .remote || isInitialising (h .core)
 
-  -- a SYNC, or a request to this node
-  abbrev Served : Bool
-  Served = eqb (f .identifier) 0x080 || eqb (f .identifier) (0x600 + node (h .core))
-
+  -- to none, refused, unheard, or an idle command
   unmeant : passesBy h f ≡ true → heard h f ≡ nothing
   unmeant p =
       test (eqb (refusalOf f) 0)
       (λ r. test Unheard (λ u. rw (r, u)) (λ u.
-      test (concerns h f)
-      (λ a. let no : passesBy h f ≡ false = rw (r, u, a) in true-false (sym p ∙ no))
-      (λ a. test (eqb (f .identifier) 0x000)
-      (λ i. rw (r, u, i) (disobeyed (ap (λ (t : Bool). cond t (obeyed h f) Served) (sym i) ∙ a)))
-      (λ i. let n = neither (eqb (f .identifier) 0x080) (eqb (f .identifier) (0x600 + node (h .core))) (ap (λ (t : Bool). cond t (obeyed h f) Served) (sym i) ∙ a) in rw (r, u, i, n .0, n .1)))))
+      test (eqb (f .identifier) 0x000)
+      (λ i. test (obeyed h f) (λ o. let no : passesBy h f ≡ false = rw (r, u, i, o) in true-false (sym p ∙ no)) (λ o. rw (r, u, i) (disobeyed o)))
+      (λ i. test (eqb (f .identifier) 0x080)
+      (λ s. let no : passesBy h f ≡ false = rw (r, u, i, s) in true-false (sym p ∙ no))
+      (λ s. test (eqb (f .identifier) (0x600 + node (h .core)))
+      (λ a. let no : passesBy h f ≡ false = rw (r, u, i, s, a) in true-false (sym p ∙ no))
+      (λ a. rw (r, u, i, s, a))))))
       (λ r. rw r)
 
   pub passed : passesBy h f ≡ true → h ≡ step h (receive f)

@@ -1,7 +1,7 @@
 -- The frames that leave the head alone: 01's "A frame neither refused nor meant for the head changes nothing", and commands that have no effect.
 use Prim.Native.Nat.{ℕ, _+_}
 use lib.Dec.{eqb}
-use mathlib.Core.Bool.{Bool, true, false, not, _&&_, _||_, cond}
+use mathlib.Core.Bool.{Bool, true, false, not, _&&_, _||_}
 use Rattle.can.specs.declared.Received.{Received}
 use Rattle.can.specs.Frame.{refusalOf}
 use Rattle.parts.specs.declared.Head.{Head}
@@ -17,10 +17,12 @@ acts n (toReset r) = true
 abbrev pub obeyed : Head → Received → Bool
 obeyed h f = eqb (f .length) 2 && (eqb (byteOf f 1) 0 || eqb (byteOf f 1) (node (h .core))) && acts (h .core .nmt .code) (command (byteOf f 0))
 
--- a command that does something, a SYNC, or a request to this node
-abbrev pub concerns : Head → Received → Bool
-concerns h f = cond (eqb (f .identifier) 0x000) (obeyed h f) (eqb (f .identifier) 0x080 || eqb (f .identifier) (0x600 + node (h .core)))
+-- for NMT, SYNC or the SDO server of this node
+abbrev pub known : Head → Received → Bool
+known h f = eqb (f .identifier) 0x000 || eqb (f .identifier) 0x080 || eqb (f .identifier) (0x600 + node (h .core))
 
--- refused, not to be heard, or no such frame
+-- for none of these, refused, not to be heard, or a command that does nothing
 abbrev pub passesBy : Head → Received → Bool
-passesBy h f = not (eqb (refusalOf f) 0) || (f .extended || f .remote || isInitialising (h .core)) || not (concerns h f)
+passesBy h f =
+    not (known h f)
+    || (not (eqb (refusalOf f) 0) || (f .extended || f .remote || isInitialising (h .core)) || (eqb (f .identifier) 0x000 && not (obeyed h f)))

@@ -8,7 +8,7 @@ ghost use Rattle.parts.specs.declared.Sensor.the-variants.{Missing, Raw};
 ghost use Rattle.promises.specs.Calls.{heardUnrefused as heardAs, answered};
 ghost use Rattle.promises.specs.Valid.{Valid};
 ghost use Rattle.head.specs.Steps.{nobody};
-ghost use Rattle.head.specs.Passing.{concerns as concernsBy, passesBy};
+ghost use Rattle.head.specs.Passing.{passesBy};
 ghost use Rattle.promises.specs.Promised.{PowersUp, Receives, Ticks, Samples, Slots};
 use can::Received;
 use entries::Device;
@@ -115,19 +115,16 @@ pub fn passes(head: Head, frame: Received) -> bool
     ensures { λ r. ⌜ r ≡ passesBy head frame ⌝ }
 {
     let state = head.core.nmt;
+    let request = REQUEST + head.core.device.node as u32;
+    let identifier = frame.identifier;
+    let known = (identifier == COMMAND) | (identifier == SYNC) | (identifier == request);
+    if !known {
+        return true;
+    }
     let refused = can::refusal(frame) != can::NO_REFUSAL;
     let unheard = frame.extended | frame.remote | state::is_initialising(state);
-    refused | unheard | !concerns(head, frame)
-}
-
-fn concerns(head: Head, frame: Received) -> bool
-    ensures { λ r. ⌜ r ≡ concernsBy head frame ⌝ }
-{
-    let identifier = frame.identifier;
-    if identifier == COMMAND {
-        return nmt::obeyed(head, frame);
-    }
-    (identifier == SYNC) | (identifier == REQUEST + head.core.device.node as u32)
+    let idle = (identifier == COMMAND) & !nmt::obeyed(head, frame);
+    refused | unheard | idle
 }
 
 fn heard(head: Head, frame: Received) -> Head
