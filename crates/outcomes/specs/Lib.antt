@@ -1,3 +1,4 @@
 pub mod Outcome
 pub mod Outcomes
 pub mod Asked
+pub mod Lent
