@@ -13,7 +13,9 @@
  *
  * What is proved: for every argument, refused ones too, a call's answer and the head that it leaves are determined by its
  * contract in crates/lent/src/lib.rt; each call ends, and leaves a head that every call can be made with.
- * What is not, and the caller has to see to:
+ * It is proved of the source. The compiler that makes the archive is trusted; that C and the archive agree on the layout is
+ * tested, by the checks below and by host/layout.c.
+ * What the caller has to see to:
  *   - the pointer is to a haybleater_head, aligned as the type asks, that haybleater_power_up made and calls altered;
  *   - nobody else reads or writes that head during a call: one thread at a time, and no interrupt in between;
  *   - a bool holds 0 or 1, as every C bool does that was not written byte by byte.
@@ -37,7 +39,7 @@ extern "C" {
 #define HAYBLEATER_BAD_SAMPLE 3     /* a raw sample above 1,048,575 */
 #define HAYBLEATER_BAD_NODE 4       /* a node number not 1..127 */
 
-/* NMT states, each named with its heartbeat code. */
+/* NMT states, each named with its heartbeat code; Initialising with the byte of the boot-up frame. */
 #define HAYBLEATER_INITIALISING 0x00
 #define HAYBLEATER_STOPPED 0x04
 #define HAYBLEATER_OPERATIONAL 0x05
@@ -96,8 +98,9 @@ uint8_t haybleater_power_up(haybleater_head *head, uint8_t node, haybleater_iden
 
 /*
  * A frame was received. Refuses with HAYBLEATER_BAD_IDENTIFIER or HAYBLEATER_BAD_LENGTH, in every state, what no bus can
- * carry: the head is unchanged. A frame neither refused nor meant for the head changes nothing and is no refusal: every
- * 29-bit and every remote frame, another node's, and in Initialising all.
+ * carry: the head is unchanged. A frame neither refused nor meant for the head changes nothing and is no refusal: among
+ * others every 29-bit and every remote frame, another node's, one of another length, a request in Stopped or while a reply
+ * waits, and in Initialising all.
  */
 uint8_t haybleater_receive(haybleater_head *head, haybleater_received frame);
 

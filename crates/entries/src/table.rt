@@ -58,8 +58,6 @@ pub const RANGE: u32 = 0x6002_00;
 
 pub const PRESET: u32 = 0x6003_00;
 
-pub const POSITION: u32 = 0x6004_00;
-
 pub const STEP: u32 = 0x6005_01;
 
 pub const CYCLE: u32 = 0x6200_00;

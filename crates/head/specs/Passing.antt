@@ -1,4 +1,4 @@
--- The frames that leave the head alone: 01's "A frame neither refused nor meant for the head changes nothing", and commands that have no effect.
+-- Frames that are seen at once to leave the head alone, by identifier, refusal, kind, state or command. Others may leave it alone too: `received` says.
 use Prim.Native.Nat.{ℕ, _+_}
 use lib.Dec.{eqb}
 use mathlib.Core.Bool.{Bool, true, false, not, _&&_, _||_}

@@ -37,7 +37,7 @@ pub const BAD_SAMPLE: u8 = 3;
 
 pub const BAD_NODE: u8 = 4;
 
-// The identifiers that the head hears; a request's is this and its node number.
+// The identifiers that the head hears; a request's is REQUEST plus the node number.
 const COMMAND: u32 = 0x000;
 
 const SYNC: u32 = 0x080;
@@ -110,7 +110,8 @@ pub fn receive(head: Head, frame: Received) -> Answer
     }
 }
 
-// Whether a frame leaves the head alone: refused, not meant for it, or a command that does nothing.
+// Whether a frame is seen at once to leave the head alone: for none that the head hears, refused, not to be heard, or a command that
+// does nothing. One that does not pass may still change nothing.
 pub fn passes(head: Head, frame: Received) -> bool
     ensures { λ r. ⌜ r ≡ passesBy head frame ⌝ }
 {

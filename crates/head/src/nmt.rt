@@ -53,7 +53,7 @@ pub fn commanded(head: Head, frame: Received) -> Head
     restart(head, command)
 }
 
-// Whether a command does something: one to this node that names another state, or a reset.
+// Whether a command does something: it is to this node or to all, and names another state or a reset.
 pub fn obeyed(head: Head, frame: Received) -> bool
     ensures { λ r. ⌜ r ≡ obeyedBy head frame ⌝ }
 {

@@ -20,6 +20,7 @@ use services::emergency;
 use services::state;
 use services::time;
 use waiting::EMERGENCY;
+use waiting::EMPTY;
 use waiting::HEARTBEAT;
 use waiting::SDO_REPLY;
 use waiting::TPDO1;
@@ -30,13 +31,11 @@ const REPLY_FRAME: u32 = 0x580;
 
 const HEARTBEAT_FRAME: u32 = 0x700;
 
-const NO_KIND: u8 = 0;
-
 // Whether there is a frame to send: the boot-up frame, or that of the first kind in the line.
 pub fn waits(state: Nmt, kind: u8) -> bool
     ensures { λ r. ⌜ r ≡ (eqb (state .code) initialisingCode || not (eqb kind 0)) ⌝ }
 {
-    state::is_initialising(state) | (kind != NO_KIND)
+    state::is_initialising(state) | (kind != EMPTY)
 }
 
 // The core once the frame is sent: only what the boot-up frame and the emergency alter is written.
@@ -77,7 +76,7 @@ pub fn frame(core: Core, kind: u8) -> Frame
     if state::is_initialising(state) {
         return state_frame(node, state);
     }
-    if kind == NO_KIND {
+    if kind == EMPTY {
         return framed(0, 0, [0, 0, 0, 0, 0, 0, 0, 0]);
     }
     if kind == EMERGENCY {

@@ -29,7 +29,7 @@ pub fn none() -> Due
     }
 }
 
-// Whether a raw position is refused, whatever the head.
+// Whether a raw position is refused, whatever the head. The law of such calls (proofs/Guarded1) hands the head to the test, and the raw position to the answer.
 pub fn beyond(_head: Head, raw: u32) -> bool
     ensures { λ r. ⌜ r ≡ badSample (Raw raw) ⌝ }
 {

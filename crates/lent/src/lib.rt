@@ -1,5 +1,5 @@
 //! The head for a host that keeps it in its own memory and lends it for each call; C and Rust link these functions.
-//! Each call hands the head to the covered step by value and puts back what the step leaves.
+//! Each call hands the head to the covered step by value and puts back what the step leaves; one that is seen to leave it as it is returns first.
 ghost use mathlib.Core.Path.{_≡_};
 ghost use Rattle.parts.specs.declared.Sensor.the-variants.{Missing, Raw};
 ghost use Rattle.promises.specs.Valid.{Valid};

@@ -6,8 +6,6 @@ use crate::Located;
 use parts::Head;
 use services::state;
 
-const NO_KIND: u8 = 0;
-
 pub fn state(head: Head) -> u8
     ensures { λ r. ⌜ r ≡ stateCode head ⌝ }
 {
@@ -45,5 +43,5 @@ pub fn waits(head: Head) -> bool
     let state = head.core.nmt;
     let line = head.line;
     let kind = waiting::first(line);
-    state::is_initialising(state) | (kind != NO_KIND)
+    state::is_initialising(state) | (kind != waiting::EMPTY)
 }

@@ -21,7 +21,7 @@ pub const TPDO1: u8 = 4;
 pub const TPDO2: u8 = 5;
 
 // An empty place. Empty places stand behind the waiting kinds only.
-const EMPTY: u8 = 0;
+pub const EMPTY: u8 = 0;
 
 pub const PLACES: usize = 5;
 
