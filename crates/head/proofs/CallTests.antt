@@ -1,8 +1,7 @@
 -- What each call answers, by the tests that the code makes; and the head that it leaves is valid.
 use Prim.Native.Nat.{ℕ, _<_, _≤_}
-use lib.Dec.{eqb}
 use mathlib.Core.Path.{_≡_, refl, sym, ap, subst, _∙_}
-use mathlib.Core.Bool.{Bool, true, false, not, _||_, cond}
+use mathlib.Core.Bool.{true, false}
 use borrow.Author.Tests.{lt-ltb, le-ltb, leb-true}
 use native.Mathlib.Omega.{arith}
 use Rattle.can.specs.declared.Received.{Received}
@@ -11,19 +10,18 @@ use Rattle.cases.specs.Tests.{within}
 use Rattle.cases.proofs.Cases.{both}
 use Rattle.entries.specs.declared.Identity.{Identity}
 use Rattle.dictionary.specs.Valid.{ValidIdentity}
-use Rattle.waiting.specs.Line.{first}
 use Rattle.parts.specs.declared.Head.{Head}
 use Rattle.parts.specs.declared.Sent.{Sent}
 use Rattle.parts.specs.declared.Sensor.the-variants.{Missing, Raw}
-use Rattle.promises.specs.States.{operational, isIn, isInitialising, communication, started}
-use Rattle.promises.specs.Timers.{timersTicked}
-use Rattle.promises.specs.Acts.{nothing, take, lose, time, acted, timing, timeMoments, emergencyOnly, settledTo, act, frameBy}
-use Rattle.promises.specs.Calls.{Call, receive, tick, sample, slot, timed, sampledAs, sentBy, step, answered, noIdentity, poweredUp, received, ticked, sampled, frameIn, slotted}
+use Rattle.promises.specs.States.{started}
+use Rattle.promises.specs.Acts.{take, lose, act}
+use Rattle.promises.specs.Calls.{Call, receive, tick, sample, slot, sampledAs, step, answered, noIdentity, poweredUp, received, ticked, sampled, slotted}
 use Rattle.promises.specs.Valid.{Valid}
-use Rattle.head.specs.Steps.{nobody}
+use Rattle.head.specs.Parts.{shown, timedOf, timedIn, slottedOf, slottedIn}
 use Rattle.promises.proofs.Nothing.{act-nothing}
 use Rattle.promises.proofs.Valid.{valid-step, valid-started}
-use Rattle.head.proofs.SlotTests.{slot-waits, slot-settles}
+use Rattle.head.proofs.TickTests.{tick-keeps, tick-shown}
+use Rattle.head.proofs.SlotParts.{slot-keeps}
 
 pub powers-up : (n : ℕ) (i : Identity) → within 1 127 n ≡ true → ValidIdentity i → (answered 0 (started n i) ≡ poweredUp n i) × Valid (started n i)
 powers-up n i e v = let b = both _ _ e in rw e (refl, valid-started n i (leb-true _ _ (b .0)) (leb-true _ _ (b .1)) v)
@@ -39,18 +37,8 @@ module _ (h : Head) (v : Valid h) where
   pub receives : (f : Received) {n : ℕ} {r : Head} → n ≡ refusalOf f → r ≡ step h (receive f) → (answered n r ≡ received h f) × Valid r
   receives f e p = rw (e, p) (refl, valid-step h (receive f) v)
 
-  abbrev after-tick : Bool → Head
-  after-tick stands =
-      let c = h .core in
-      settledTo false h (timing c (cond stands (c .timers) (timersTicked (isIn operational c) (communication c) (c .timers)))) (cond stands nobody (timeMoments (communication c) (c .timers)))
-
-  ticks-as : (stands : Bool) → timed (h .core) ≡ cond stands nothing time → (after-tick stands ≡ ticked h) × Valid (after-tick stands)
-  unfolding act
-  ticks-as true m = let p = sym (ap (act false h) m) in (p, leaves tick p)
-  ticks-as false m = let p = sym (ap (act false h) m) in (p, leaves tick p)
-
-  pub ticks : let r = after-tick (isInitialising (h .core)) in (r ≡ ticked h) × Valid r
-  ticks = ticks-as (isInitialising (h .core)) refl
+  pub ticks : let r = timedIn h (timedOf (ticked (shown h))) in (r ≡ ticked h) × Valid r
+  ticks = let p = ap (timedIn h) (tick-shown h) ∙ tick-keeps h in (p, leaves tick p)
 
   pub loses : {r : Head} → r ≡ act false h lose → (answered 0 r ≡ sampled h Missing) × Valid r
   loses p = (ap (answered 0) p, leaves (sample Missing) p)
@@ -65,9 +53,5 @@ module _ (h : Head) (v : Valid h) where
         let q = p ∙ sym (ap (act false h) m) in
         (rw (le-ltb _ _ b) (ap (answered 0) p), leaves (sample (Raw raw)) q)
 
-  pub sends-first :
-      let a = sentBy (h .core) (first (h .line)) in
-      let r = settledTo true h (acted (h .core) a) emergencyOnly in
-      let s : Sent = record { waited = isInitialising (h .core) || not (eqb (first (h .line)) 0); frame = frameIn (frameBy (h .core) a); head = r } in
-      (s ≡ slotted h) × Valid r
-  sends-first = rw (slot-settles h, ← slot-waits (h .core) (first (h .line))) (refl, valid-step h slot v)
+  pub sends-first : let s = slottedIn h (slottedOf (slotted h)) in (s ≡ slotted h) × Valid (s .head)
+  sends-first = let p = slot-keeps h v in (p, leaves slot (ap (λ (s : Sent). s .head) p))

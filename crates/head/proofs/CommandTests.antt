@@ -1,16 +1,15 @@
--- What an NMT command and a SYNC do, by the tests that the code makes.
+-- What an NMT command does, by the tests that the code makes.
 use Prim.Native.Nat.{ℕ}
-use lib.Dec.{eqb, leb}
+use lib.Dec.{eqb}
 use mathlib.Core.Path.{_≡_, refl, sym, ap, _∙_}
 use mathlib.Core.Bool.{Bool, true, false, _&&_, _||_}
 use Rattle.can.specs.declared.Received.{Received}
 use Rattle.cases.proofs.Cases.{by₂}
 use Rattle.parts.specs.declared.Nmt.{Nmt}
 use Rattle.parts.specs.declared.Head.{Head}
-use Rattle.promises.specs.States.{Goal, operational, state, isIn, node, communication, Reset, restored, Command, toEnter, command, resetCommand, byteOf, commandOf}
-use Rattle.promises.specs.Timers.{timersSynced}
-use Rattle.promises.specs.Acts.{Act, nothing, reset, sync, entered, resetWith, emergencyOnly, timing, entryMoments, syncMoments, settledTo, act}
-use Rattle.promises.specs.Calls.{commanded, synchronised}
+use Rattle.promises.specs.States.{Goal, state, isIn, node, communication, Reset, restored, Command, toEnter, command, resetCommand, byteOf, commandOf}
+use Rattle.promises.specs.Acts.{Act, nothing, reset, entered, resetWith, emergencyOnly, entryMoments, settledTo, act}
+use Rattle.promises.specs.Calls.{commanded}
 use Rattle.head.specs.Steps.{entering}
 use Rattle.promises.proofs.Nothing.{act-nothing}
 
@@ -46,12 +45,3 @@ module _ (h : Head) where
 
     pub obeys : (k : Command) → Addressed ≡ true → command (byteOf f 0) ≡ k → act false h (commanded (h .core) k) ≡ act false h (commanded (h .core) (commandOf (node (h .core)) f))
     obeys k e i = rw (e, i)
-
-  module _ (length : ℕ) where
-    pub no-sync : (leb length 1 && isIn operational (h .core)) ≡ false → h ≡ act false h (synchronised (h .core) length)
-    no-sync e = none-acts h _ (rw e)
-
-    pub syncs : (leb length 1 && isIn operational (h .core)) ≡ true
-        → settledTo false h (timing (h .core) (timersSynced (communication (h .core)) (h .core .timers))) (syncMoments (communication (h .core)) (h .core .timers)) ≡ act false h (synchronised (h .core) length)
-    unfolding act
-    syncs e = let m : synchronised (h .core) length ≡ sync = rw e in sym (ap (act false h) m)

@@ -1,19 +1,17 @@
 -- What a slot sends and does, by the tests that the code makes.
 use Prim.Native.Nat.{ℕ, _+_}
 use lib.Dec.{eqb}
-use mathlib.Core.Path.{_≡_, refl, sym, ap, subst, _∙_}
-use mathlib.Core.Bool.{true, false, not, _&&_, _||_}
-use borrow.Author.Tests.{eqb-true, eqb-false, ne-eqb}
-use Rattle.cases.proofs.Cases.{by, test, cond-ap}
+use mathlib.Core.Path.{_≡_, refl, sym, ap, _∙_}
+use mathlib.Core.Bool.{true, false, not, _||_}
+use borrow.Author.Tests.{eqb-true, ne-eqb}
+use Rattle.cases.proofs.Cases.{by, cond-ap}
 use mathlib.Core.List.{[], _∷_}
-use Rattle.waiting.specs.Line.{first}
 use Rattle.parts.specs.declared.Core.{Core}
-use Rattle.parts.specs.declared.Head.{Head}
 use Rattle.promises.specs.States.{one, two, isInitialising, node}
-use Rattle.promises.specs.Acts.{Act, boot, idle, send, sending, acted, moments, emergencyOnly, settledTo, act, frameBy}
+use Rattle.promises.specs.Acts.{Act, boot, idle, send, sending, acted, moments, emergencyOnly, frameBy}
 use Rattle.promises.specs.Calls.{sentBy, isFrame, frameIn}
-use Rattle.promises.specs.WaitingLine.{Kind, emergency, tpdo, number, kindOf, frame}
-use Rattle.head.specs.Steps.{pdoOf, sentCore}
+use Rattle.promises.specs.WaitingLine.{Kind, tpdo, number, kindOf, frame}
+use Rattle.head.specs.Steps.{pdoOf}
 use Rattle.promises.proofs.Slots.{sent-by}
 
 module _ (c : Core) (k : ℕ) where
@@ -21,7 +19,7 @@ module _ (c : Core) (k : ℕ) where
   pub each-act : (P : Act → Type 0) → (isInitialising c ≡ true → P boot) → (isInitialising c ≡ false → eqb k 0 ≡ true → P idle) → (isInitialising c ≡ false → eqb k 0 ≡ false → P (send (kindOf k))) → P (sentBy c k)
   each-act P b i s = by P (isInitialising c) b (λ e. by P (eqb k 0) (i e) (s e))
 
-  slot-moments : moments c (sentBy c k) ≡ emergencyOnly
+  pub slot-moments : moments c (sentBy c k) ≡ emergencyOnly
   slot-moments = each-act (λ a. moments c a ≡ emergencyOnly) (λ e. refl) (λ e n. refl) (λ e n. refl)
 
   -- one frame, or none exactly if none waits
@@ -42,41 +40,19 @@ module _ (c : Core) (k : ℕ) where
     sends-position a b d e = rw (running, ne-eqb _ _ a, ne-eqb _ _ b, ne-eqb _ _ d, ne-eqb _ _ e) (ap send (sym (cond-ap tpdo (eqb k 4) one two)))
 
     -- only sending an emergency alters the core
-    passes : (k ≡ 1 → ⊥) → c ≡ acted c (sentBy c k)
+    pub passes : (k ≡ 1 → ⊥) → c ≡ acted c (sentBy c k)
     passes n =
         rw (running, ne-eqb k 1 n)
         (by (λ (a : Act). c ≡ acted c a) (eqb k 0) (λ e. refl) (λ e.
         by Kept (eqb k 2) (λ e. refl) (λ e. by Kept (eqb k 3) (λ e. refl) (λ e. by Kept (eqb k 4) (λ e. refl) (λ e. refl)))))
 
-  boots : isInitialising c ≡ true → sentBy c k ≡ boot
+  pub boots : isInitialising c ≡ true → sentBy c k ≡ boot
   boots e = rw e
 
   -- the frame, and the core, of what a slot does
   pub frame-as : (a : Act) → sentBy c k ≡ a → frameIn (frameBy c a) ≡ frameIn (frameBy c (sentBy c k))
   frame-as a e = ap (λ x. frameIn (frameBy c x)) (sym e)
 
-  core-as : (a : Act) → sentBy c k ≡ a → acted c a ≡ acted c (sentBy c k)
-  core-as a e = ap (acted c) (sym e)
-
-  abbrev Becomes : Core → Type 0
-  Becomes d = d ≡ acted c (sentBy c k)
-
-  -- the boot-up frame is sent, an emergency, or another
-  pub sent-core : Becomes (sentCore (isInitialising c) (not (isInitialising c) && eqb k 1) c)
-  sent-core =
-      test (isInitialising c)
-      (λ e. subst (λ b. Becomes (sentCore b (not b && eqb k 1) c)) (sym e) (core-as boot (boots e)))
-      (λ e. subst (λ b. Becomes (sentCore b (not b && eqb k 1) c)) (sym e)
-      (test (eqb k 1)
-      (λ i. subst (λ b. Becomes (sentCore false b c)) (sym i) (core-as (send emergency) (sends e emergency (eqb-true k 1 i))))
-      (λ i. subst (λ b. Becomes (sentCore false b c)) (sym i) (passes e (eqb-false k 1 i)))))
-
   -- the boot-up frame: Initialising's code
   pub boot-frame : isInitialising c ≡ true → frame (0x700 + node c) 1 (c .nmt .code ∷ []) ≡ frameIn (frameBy c (sentBy c k))
   boot-frame e = ap (λ n. frame (0x700 + node c) 1 (n ∷ [])) (eqb-true (c .nmt .code) 0 e) ∙ frame-as boot (boots e)
-
-pub slot-settles : (h : Head) → let a = sentBy (h .core) (first (h .line)) in settledTo true h (acted (h .core) a) emergencyOnly ≡ act true h a
-unfolding act
-slot-settles h =
-    let a = sentBy (h .core) (first (h .line)) in
-    ap (settledTo true h (acted (h .core) a)) (sym (slot-moments (h .core) (first (h .line))))

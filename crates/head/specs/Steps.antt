@@ -2,7 +2,7 @@
 use Prim.Native.Nat.{ℕ}
 use lib.Dec.{eqb}
 use mathlib.Core.Path.{_≡_}
-use mathlib.Core.Bool.{Bool, false, cond}
+use mathlib.Core.Bool.{false, cond}
 use mathlib.Core.List.{List}
 use Rattle.can.specs.declared.Frame.{Frame}
 use Rattle.entries.specs.declared.Device.{Device}
@@ -12,18 +12,9 @@ use Rattle.sdo.specs.declared.reply.Effect.the-variants.{Write}
 use Rattle.sdo.specs.declared.reply.Served.{Served}
 use Rattle.waiting.specs.Line as line
 use Rattle.parts.specs.declared.Nmt.{Nmt}
-use Rattle.parts.specs.declared.Timers.{Timers}
-use Rattle.parts.specs.declared.Core.{Core}
 use Rattle.parts.specs.declared.Head.{Head}
-use Rattle.parts.specs.declared.Flags.{Flags}
-use Rattle.promises.specs.States.{preOperational, state, Which, one, two, communication, good, atRest}
-use Rattle.promises.specs.WaitingLine.{flags}
-use Rattle.promises.specs.Timers.{inhibitTicks}
-use Rattle.promises.specs.Acts.{core, inhibited, entered, entryMoments, settledTo}
-
--- nobody's moment
-abbrev pub nobody : Flags
-nobody = flags false false false false false
+use Rattle.promises.specs.States.{Which, one, two, communication}
+use Rattle.promises.specs.Acts.{entered, entryMoments, settledTo}
 
 abbrev pub entering : Head → Nmt → Head
 entering h s = cond (eqb (h .core .nmt .code) (s .code)) h (settledTo false h (entered (h .core) s) (entryMoments (communication (h .core)) s))
@@ -40,12 +31,3 @@ pdoOf kind = cond (eqb kind line.tpdo1) one two
 
 abbrev pub sendable : ℕ → ℕ → List ℕ → Frame
 sendable identifier length bytes = record { identifier = identifier; length = length; bytes = bytes }
-
--- once a slot has sent: the boot-up frame, an emergency, or another
-abbrev pub sentTimers : Bool → Bool → ℕ → Timers → Timers
-sentTimers boots announces inhibit t = cond boots atRest (inhibited t (cond announces (inhibitTicks inhibit) (t .inhibit)))
-
-abbrev pub sentCore : Bool → Bool → Core → Core
-sentCore boots announces c =
-    core c (c .device) (cond boots (state preOperational) (c .nmt)) (cond announces (good c) (c .announced))
-    (sentTimers boots announces (communication c .inhibit) (c .timers))

@@ -1,13 +1,11 @@
 //! The head by value: power-up, frame received, tick, sample, slot.
 ghost use mathlib.Core.Path.{_≡_};
-ghost use mathlib.Core.Bool.{false, cond};
-ghost use Rattle.position.specs.Profile.{ValidProfile};
+ghost use mathlib.Core.Bool.{false};
 ghost use Rattle.promises.specs.States.{started as startedHead};
 ghost use Rattle.promises.specs.Acts.{act};
 ghost use Rattle.parts.specs.declared.Sensor.the-variants.{Missing, Raw};
 ghost use Rattle.promises.specs.Calls.{heardUnrefused as heardAs, answered};
 ghost use Rattle.promises.specs.Valid.{Valid};
-ghost use Rattle.head.specs.Steps.{nobody};
 ghost use Rattle.head.specs.Passing.{passesBy};
 ghost use Rattle.promises.specs.Promised.{PowersUp, Receives, Ticks, Samples, Slots};
 use can::Received;
@@ -17,19 +15,17 @@ use entries::Reading;
 use entries::Settings;
 use parts::Answer;
 use parts::Core;
-use parts::Flags;
 use parts::Head;
 use parts::Nmt;
 use parts::Sensor;
 use parts::Sent;
-use parts::Timers;
-use services::settle;
 use services::state;
 use services::time;
 
 mod nmt;
 mod sending;
 mod service;
+pub mod steps;
 mod sync;
 mod tape;
 
@@ -129,7 +125,7 @@ pub fn passes(head: Head, frame: Received) -> bool
 }
 
 fn heard(head: Head, frame: Received) -> Head
-    requires { ⌜ ValidProfile (head .core .device .settings .profile) ⌝ }
+    requires { ⌜ Valid head ⌝ }
     ensures { λ r. ⌜ r ≡ act false head (heardAs head frame) ⌝ }
 {
     let state = head.core.nmt;
@@ -153,38 +149,23 @@ pub fn tick(head: Head) -> Head
     requires { ⌜ Valid head ⌝ }
     ensures { λ r. ⌜ Ticks head r ⌝ }
 {
-    let core = head.core;
-    let state = core.nmt;
-    let settings = core.device.settings.communication;
-    let timers = core.timers;
-    let stands = state::is_initialising(state);
-    let ticked = time::ticked(state::is_operational(state), settings, timers);
-    let runs = unless(stands, timers, ticked);
-    let due = nobody_if(stands, time::due(settings, timers));
-    settle::settled(head, time::timed(core, runs), due)
-}
-
-// In Initialising timers stand.
-fn unless(stands: bool, timers: Timers, ticked: Timers) -> Timers
-    ensures { λ r. ⌜ r ≡ cond stands timers ticked ⌝ }
-{
-    if stands { timers } else { ticked }
-}
-
-// In Initialising a tick is nobody's moment.
-fn nobody_if(stands: bool, due: Flags) -> Flags
-    ensures { λ r. ⌜ r ≡ cond stands nobody due ⌝ }
-{
-    if stands {
-        return Flags {
-            emergency: false,
-            reply: false,
-            heartbeat: false,
-            tpdo1: false,
-            tpdo2: false,
-        };
-    }
-    due
+    let state = head.core.nmt;
+    let settings = head.core.device.settings.communication;
+    let counted = head.core.timers;
+    let waiting = head.line;
+    let left = steps::tick(
+        state,
+        settings,
+        counted,
+        head.core.device.reading.good,
+        head.core.announced,
+        waiting,
+    );
+    let timers = left.timers;
+    let line = left.line;
+    let mut core = head.core;
+    core.timers = timers;
+    Head { core, line }
 }
 
 // A raw position, or "missing". A raw position above 1,048,575 is refused with 3.
@@ -229,13 +210,17 @@ pub fn slot(head: Head) -> Sent
     requires { ⌜ Valid head ⌝ }
     ensures { λ r. ⌜ Slots head r ⌝ }
 {
-    let core = head.core;
-    let state = core.nmt;
-    let line = head.line;
-    let kind = waiting::first(line);
+    let left = steps::slot(head);
+    let frame = left.frame;
+    let state = left.nmt;
+    let line = left.line;
+    let mut core = head.core;
+    core.nmt = state;
+    core.announced = left.announced;
+    core.timers.inhibit = left.inhibit;
     Sent {
-        waited: sending::waits(state, kind),
-        frame: sending::frame(core, kind),
-        head: settle::sent(head, sending::after(core, kind)),
+        waited: left.waited,
+        frame,
+        head: Head { core, line },
     }
 }

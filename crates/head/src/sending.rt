@@ -1,27 +1,29 @@
 //! What a slot sends.
 ghost use mathlib.Core.Path.{_≡_};
-ghost use Prim.Native.Nat.{_+_, _≤_};
+ghost use Prim.Native.Nat.{_+_};
 ghost use lib.Dec.{eqb};
-ghost use mathlib.Core.Bool.{not, _||_};
+ghost use mathlib.Core.Bool.{not, _||_, cond};
 ghost use mathlib.Core.List.{[], _∷_};
+ghost use Rattle.cases.specs.Padded.{pad};
+ghost use Rattle.waiting.specs.Line.{places, emergency as alarm};
+ghost use Rattle.waiting.specs.Places.{takenIn, waiting as waitingIn, Holds};
+ghost use Rattle.waiting.specs.Calls.{joinsIn, ifDue};
 ghost use Rattle.position.specs.Profile.{ValidProfile};
 ghost use Rattle.promises.specs.States.{initialisingCode};
 ghost use Rattle.promises.specs.WaitingLine.{Kind, frame as frameWith, frameOf};
-ghost use Rattle.promises.specs.Acts.{acted, frameBy};
+ghost use Rattle.promises.specs.Acts.{frameBy};
 ghost use Rattle.promises.specs.Calls.{sentBy, frameIn};
-ghost use Rattle.head.specs.Steps.{pdoOf, sendable, sentTimers};
-use crate::nmt;
+ghost use Rattle.head.specs.Steps.{pdoOf, sendable};
 use can::Bytes;
 use can::Frame;
 use parts::Core;
 use parts::Nmt;
-use parts::Timers;
 use services::emergency;
 use services::state;
-use services::time;
 use waiting::EMERGENCY;
 use waiting::EMPTY;
 use waiting::HEARTBEAT;
+use waiting::Line;
 use waiting::SDO_REPLY;
 use waiting::TPDO1;
 
@@ -38,33 +40,15 @@ pub fn waits(state: Nmt, kind: u8) -> bool
     state::is_initialising(state) | (kind != EMPTY)
 }
 
-// The core once the frame is sent: only what the boot-up frame and the emergency alter is written.
-pub fn after(core: Core, kind: u8) -> Core
-    requires { ⌜ core .device .settings .communication .inhibit ≤ 0xFFFF ⌝ }
-    ensures { λ r. ⌜ r ≡ acted core (sentBy core kind) ⌝ }
-{
-    let state = core.nmt;
-    let timers = core.timers;
-    let inhibit = core.device.settings.communication.inhibit;
-    let boots = state::is_initialising(state);
-    let announces = !boots & (kind == EMERGENCY);
-    let mut next = core;
-    next.nmt = nmt::booted(boots, state);
-    next.announced = emergency::announced(announces, core.device.reading.good, core.announced);
-    next.timers = timers_after(boots, announces, inhibit, timers);
-    next
-}
-
-fn timers_after(boots: bool, announces: bool, inhibit: u32, timers: Timers) -> Timers
-    requires { ⌜ inhibit ≤ 0xFFFF ⌝ }
-    ensures { λ r. ⌜ r ≡ sentTimers boots announces inhibit timers ⌝ }
+// The line once the frame is sent. Behind the boot-up frame nothing waits, and an emergency may join.
+pub fn line_after(boots: bool, alerts: bool, line: Line) -> Line
+    requires { ⌜ Holds places line (waitingIn line) ⌝ }
+    ensures { λ r. ⌜ r ≡ cond boots (joinsIn (pad places []) (ifDue alerts alarm)) (takenIn line) ⌝ }
 {
     if boots {
-        return time::at_rest();
+        return waiting::join_if(waiting::none(), alerts, EMERGENCY);
     }
-    let mut next = timers;
-    next.inhibit = emergency::inhibited(announces, inhibit, timers.inhibit);
-    next
+    waiting::taken(line)
 }
 
 pub fn frame(core: Core, kind: u8) -> Frame

@@ -3,36 +3,30 @@ ghost use mathlib.Core.Path.{_≡_};
 ghost use mathlib.Core.Bool.{false};
 ghost use Rattle.promises.specs.Timers.{timersSynced};
 ghost use Rattle.promises.specs.Acts.{syncMoments, act};
+ghost use Rattle.promises.specs.Valid.{Valid};
 ghost use Rattle.promises.specs.Calls.{synchronised as synchronisedBy};
+use crate::steps;
 use entries::Communication;
 use parts::Flags;
 use parts::Head;
 use parts::Timers;
-use services::settle;
-use services::state;
-use services::time;
 use services::tpdo;
 
-const MOST_LENGTH: u8 = 1;
+pub const MOST_LENGTH: u8 = 1;
 
 pub fn synchronised(head: Head, length: u8) -> Head
+    requires { ⌜ Valid head ⌝ }
     ensures { λ r. ⌜ r ≡ act false head (synchronisedBy (head .core) length) ⌝ }
 {
-    let state = head.core.nmt;
-    if !((length <= MOST_LENGTH) & state::is_operational(state)) {
-        return head;
-    }
-    let core = head.core;
-    let settings = core.device.settings.communication;
-    let timers = core.timers;
-    settle::settled(
-        head,
-        time::timed(core, synced(settings, timers)),
-        due(settings, timers),
-    )
+    let left = steps::sync(head, length);
+    let timers = left.timers;
+    let line = left.line;
+    let mut core = head.core;
+    core.timers = timers;
+    Head { core, line }
 }
 
-fn synced(settings: Communication, timers: Timers) -> Timers
+pub fn synced(settings: Communication, timers: Timers) -> Timers
     ensures { λ r. ⌜ r ≡ timersSynced settings timers ⌝ }
 {
     let pdo1 = settings.pdo1;
@@ -47,7 +41,7 @@ fn synced(settings: Communication, timers: Timers) -> Timers
     }
 }
 
-fn due(settings: Communication, timers: Timers) -> Flags
+pub fn due(settings: Communication, timers: Timers) -> Flags
     ensures { λ r. ⌜ r ≡ syncMoments settings timers ⌝ }
 {
     let pdo1 = settings.pdo1;

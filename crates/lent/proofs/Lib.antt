@@ -1,7 +1,11 @@
 pub mod Fill2
 pub mod Guarded0
 pub mod Guarded1
+pub mod Handed
 pub mod Look0
+pub mod Parted0
+pub mod Parts
+pub mod Paths
 pub mod Questions
 pub mod Rows
 pub mod Thin

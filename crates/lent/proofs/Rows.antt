@@ -49,7 +49,7 @@ abbrev pub located-row : Row Located.the-row Located′.mir
 located-row = struct-row Located.the-type Located′.the-laws Located′.the-plain Located′.the-copy Located′.lowers
 
 abbrev pub answer : Takes answer-row (uint-row w8) head-row
-answer = of-fields answer-row (uint-row w8) head-row (λ z. z .refusal) (λ z. z .head) 0 1 refl refl (λ z. (refl, refl, refl)) (λ z vs is. (LL.owed Answer.the-type Answer′.the-laws z vs is .0, LL.owed Answer.the-type Answer′.the-laws z vs is .1 .0))
+answer = of-fields answer-row (uint-row w8) head-row (λ z. z .refusal) (λ z. z .head) 0 1 {d = 0} {d′ = 4} refl refl (λ z. (refl, refl, refl)) (λ z vs is. (LL.owed Answer.the-type Answer′.the-laws z vs is .0, LL.owed Answer.the-type Answer′.the-laws z vs is .1 .0))
 
 abbrev frame-sent-row : Row Frame.the-row Frame′.mir
 frame-sent-row = struct-row Frame.the-type Frame′.the-laws Frame′.the-plain Frame′.the-copy Frame′.lowers
@@ -68,4 +68,4 @@ pub head-is : (z : Sent-type) (vs : List Val) → Is Sent.the-row z vs → Is He
 head-is z vs is = LL.owed Sent.the-type Sent′.the-laws z vs is .1 .1 .0
 
 abbrev pub sent : Takes sent-row due-row head-row
-sent = of-three sent-row due-row head-row bool-row frame-sent-row due-in (λ z. z .head) (λ z. z .waited) (λ z. z .frame) 0 1 2 refl refl refl (λ z. (refl, refl, refl, refl)) (λ z. refl) (λ z vs is. (due-is z vs is, head-is z vs is))
+sent = of-three sent-row due-row head-row bool-row frame-sent-row due-in (λ z. z .head) (λ z. z .waited) (λ z. z .frame) 0 1 2 {d = 0} {d′ = 4} {d″ = 20} refl refl refl (λ z. (refl, refl, refl, refl)) (λ z. refl) (λ z vs is. (due-is z vs is, head-is z vs is))

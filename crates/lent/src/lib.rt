@@ -10,6 +10,7 @@ ghost use Rattle.lent.specs.Steps.{sentAs};
 use can::Frame;
 use can::Received;
 use entries::Identity;
+use head::steps;
 use parts::Head;
 
 mod idle;
@@ -57,7 +58,16 @@ pub extern "C" fn haybleater_tick(head: &mut Head)
     requires { ⌜ Valid (now head) ⌝ }
     ensures { λ _. ⌜ Ticks (now (head .entry)) (now (head .exit)) ⌝ }
 {
-    *head = head::tick(*head);
+    let timed = steps::tick(
+        head.core.nmt,
+        head.core.device.settings.communication,
+        head.core.timers,
+        head.core.device.reading.good,
+        head.core.announced,
+        head.line,
+    );
+    head.core.timers = timed.timers;
+    head.line = timed.line;
 }
 
 #[no_mangle]

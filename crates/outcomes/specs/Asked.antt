@@ -6,6 +6,8 @@ use denote.Ref.{now}
 use Rattle.position.specs.Profile.{ValidProfile}
 use Rattle.entries.specs.Table.{table}
 use Rattle.dictionary.specs.Writes.{Fits}
+use Rattle.waiting.specs.Line.{places}
+use Rattle.waiting.specs.Places.{waiting as waitingIn, Holds}
 use Rattle.promises.specs.Histories.{Reachable}
 use Rattle.promises.specs.Valid.{Valid}
 use Rattle.text.specs.Lines.{longest}
@@ -33,7 +35,7 @@ pub record Asked : Type 2 where
   pub waiting·join : AsksNothing waiting.join.ended waiting.join.Reads.Asked
   pub waiting·withdraw : AsksNothing waiting.withdraw.ended waiting.withdraw.Reads.Asked
   pub waiting·first : AsksNothing waiting.first.ended waiting.first.Reads.Asked
-  pub waiting·taken : AsksNothing waiting.taken.ended waiting.taken.Reads.Asked
+  pub waiting·taken : AsksOnly waiting.taken.ended (λ κs a. Holds places (a .0) (waitingIn (a .0))) waiting.taken.Reads.Asked
   pub waiting·join-if : AsksNothing waiting.join_if.ended waiting.join_if.Reads.Asked
   pub waiting·withdraw-if : AsksNothing waiting.withdraw_if.ended waiting.withdraw_if.Reads.Asked
   pub position·scaling : AsksNothing position.scaling.ended position.scaling.Reads.Asked
@@ -80,11 +82,11 @@ pub record Asked : Type 2 where
   pub services·time·restarted : AsksNothing services.time.restarted.ended services.time.restarted.Reads.Asked
   pub services·time·ticked : AsksNothing services.time.ticked.ended services.time.ticked.Reads.Asked
   pub services·time·at-rest : AsksNothing services.time.at_rest.ended services.time.at_rest.Reads.Asked
-  pub services·time·timed : AsksNothing services.time.timed.ended services.time.timed.Reads.Asked
   pub services·time·due : AsksNothing services.time.due.ended services.time.due.Reads.Asked
   pub services·settle·emergency-only : AsksNothing services.settle.emergency_only.ended services.settle.emergency_only.Reads.Asked
   pub services·settle·settled : AsksNothing services.settle.settled.ended services.settle.settled.Reads.Asked
-  pub services·settle·sent : AsksNothing services.settle.sent.ended services.settle.sent.Reads.Asked
+  pub services·settle·joined : AsksNothing services.settle.joined.ended services.settle.joined.Reads.Asked
+  pub services·settle·rings : AsksNothing services.settle.rings.ended services.settle.rings.Reads.Asked
   pub head·power-up : AsksNothing head.power_up.ended head.power_up.Reads.Asked
   -- Every head comes from power-up and is altered by calls only; the promises are for such heads.
   pub head·receive : AsksOnly head.receive.ended (λ κs a. Reachable (a .0)) head.receive.Reads.Asked

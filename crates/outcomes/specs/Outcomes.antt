@@ -78,11 +78,11 @@ pub record Outcomes : Type 2 where
   pub services·time·restarted : OneOutcome services.time.restarted.ended services.time.restarted.Reads.Learnt
   pub services·time·ticked : OneOutcome services.time.ticked.ended services.time.ticked.Reads.Learnt
   pub services·time·at-rest : OneOutcome services.time.at_rest.ended services.time.at_rest.Reads.Learnt
-  pub services·time·timed : OneOutcome services.time.timed.ended services.time.timed.Reads.Learnt
   pub services·time·due : OneOutcome services.time.due.ended services.time.due.Reads.Learnt
   pub services·settle·emergency-only : OneOutcome services.settle.emergency_only.ended services.settle.emergency_only.Reads.Learnt
   pub services·settle·settled : OneOutcome services.settle.settled.ended services.settle.settled.Reads.Learnt
-  pub services·settle·sent : OneOutcome services.settle.sent.ended services.settle.sent.Reads.Learnt
+  pub services·settle·joined : OneOutcome services.settle.joined.ended services.settle.joined.Reads.Learnt
+  pub services·settle·rings : OneOutcome services.settle.rings.ended services.settle.rings.Reads.Learnt
   pub head·power-up : OneOutcome head.power_up.ended head.power_up.Reads.Learnt
   pub head·receive : OneOutcome head.receive.ended head.receive.Reads.Learnt
   pub head·passes : OneOutcome head.passes.ended head.passes.Reads.Learnt

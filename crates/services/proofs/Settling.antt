@@ -29,7 +29,7 @@ withdraws-those due l (k ∷ ks) =
     withdraws-those due (withdrawsIn l (ifDue (due k) k)) ks
     ∙ by₂ (λ a b. withdrawsIn (withdrawsIn l a) (thoseDue due ks) ≡ withdrawsIn l b) (due k) (λ e. refl) (λ e. refl)
 
-none-of : (f : Flags) → anyOf f ≡ false → those (flag f) ≡ []
+pub none-of : (f : Flags) → anyOf f ≡ false → those (flag f) ≡ []
 none-of f e =
     let a = neither (((f .emergency || f .reply) || f .heartbeat) || f .tpdo1) (f .tpdo2) e in
     let b = neither ((f .emergency || f .reply) || f .heartbeat) (f .tpdo1) (a .0) in

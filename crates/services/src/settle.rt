@@ -1,17 +1,19 @@
 //! The waiting line after a call: a kind goes when its condition ends, and joins when it is its moment and it may.
 ghost use mathlib.Core.Path.{_≡_};
-ghost use mathlib.Core.Bool.{true, false};
+ghost use mathlib.Core.Bool.{false};
 ghost use Rattle.waiting.specs.Calls.{withdrawsIn, joinsIn};
 ghost use Rattle.promises.specs.WaitingLine.{those, flag, mays as maysOf};
 ghost use Rattle.promises.specs.Acts.{emergencyOnly, settledTo};
-ghost use Rattle.services.specs.Steps.{goesOf, comesOf, settledLine, anyOf};
+ghost use Rattle.services.specs.Steps.{goesOf, comesOf, settledLine, anyOf, maysAt, ringsOf, bothOf};
 use crate::emergency;
 use crate::heartbeat;
 use crate::state;
 use crate::tpdo;
+use entries::Communication;
 use parts::Core;
 use parts::Flags;
 use parts::Head;
+use parts::Nmt;
 use waiting::EMERGENCY;
 use waiting::HEARTBEAT;
 use waiting::Line;
@@ -49,21 +51,6 @@ pub fn settled(head: Head, core: Core, due: Flags) -> Head
     Head { core, line }
 }
 
-// The same once the first is sent.
-pub fn sent(head: Head, core: Core) -> Head
-    ensures { λ r. ⌜ r ≡ settledTo true head core emergencyOnly ⌝ }
-{
-    let before = head.core;
-    let waited = head.line;
-    let line = settle(Turn {
-        line: waiting::taken(waited),
-        before: mays(before),
-        after: mays(core),
-        due: emergency_only(),
-    });
-    Head { core, line }
-}
-
 // The kinds that can wait.
 fn mays(core: Core) -> Flags
     ensures { λ r. ⌜ r ≡ maysOf core ⌝ }
@@ -79,6 +66,46 @@ fn mays(core: Core) -> Flags
         tpdo1: tpdo::may(state, settings.pdo1.identifier, good),
         tpdo2: tpdo::may(state, settings.pdo2.identifier, good),
     }
+}
+
+// Where none goes: those whose moment it is join, if they may. What it depends on is handed over, and not the head.
+pub fn joined(
+    line: Line,
+    state: Nmt,
+    settings: Communication,
+    inhibit: u32,
+    good: bool,
+    announced: bool,
+    due: Flags,
+) -> Line
+    ensures { λ r. ⌜ r ≡ joinsIn line (those (flag (bothOf due (maysAt state settings inhibit good announced)))) ⌝ }
+{
+    let none = Flags {
+        emergency: false,
+        reply: false,
+        heartbeat: false,
+        tpdo1: false,
+        tpdo2: false,
+    };
+    settle(Turn {
+        line,
+        before: none,
+        after: Flags {
+            emergency: emergency::may(state, settings.emergency, inhibit, good, announced),
+            reply: state::is_live(state),
+            heartbeat: heartbeat::may(state, settings.heartbeat),
+            tpdo1: tpdo::may(state, settings.pdo1.identifier, good),
+            tpdo2: tpdo::may(state, settings.pdo2.identifier, good),
+        },
+        due,
+    })
+}
+
+// Whether it is the moment of a kind other than the emergency and the reply.
+pub fn rings(due: Flags) -> bool
+    ensures { λ r. ⌜ r ≡ ringsOf due ⌝ }
+{
+    due.heartbeat | due.tpdo1 | due.tpdo2
 }
 
 // A line, the kinds that could wait and that can now, and those whose moment it is. What settles a line is given this and no more:

@@ -4,12 +4,11 @@ ghost use Prim.Native.Nat.{_-_};
 ghost use mathlib.Core.Bool.{cond};
 ghost use Rattle.promises.specs.States.{atRest};
 ghost use Rattle.promises.specs.Timers.{counted as countedOf, completes as completesAt, ifRunning, timersTicked};
-ghost use Rattle.promises.specs.Acts.{timing, timeMoments};
+ghost use Rattle.promises.specs.Acts.{timeMoments};
 use crate::tpdo;
 use entries::Communication;
 use entries::Pdo;
 use parts::Clock;
-use parts::Core;
 use parts::Flags;
 use parts::Timers;
 
@@ -66,15 +65,6 @@ pub fn at_rest() -> Timers
         pdo1: tpdo::uncounted(),
         pdo2: tpdo::uncounted(),
     }
-}
-
-// The core with other timers.
-pub fn timed(core: Core, timers: Timers) -> Core
-    ensures { λ r. ⌜ r ≡ timing core timers ⌝ }
-{
-    let mut next = core;
-    next.timers = timers;
-    next
 }
 
 fn run(runs: bool, pdo: Pdo, clock: Clock) -> Clock

@@ -50,7 +50,7 @@ has-withdraws k ws [] = refl
 has-withdraws k ws (j ∷ js) =
     rw (has-withdraws k (withdraw ws j) js, has-withdraw k j ws) (neither-first (eqb j k) (has k js) (has k ws))
 
-has-drop : (n k : ℕ) (ws : List ℕ) → Kinds n ws → has k (drop 1 ws) ≡ (not (eqb (first ws) k) && has k ws)
+pub has-drop : (n k : ℕ) (ws : List ℕ) → Kinds n ws → has k (drop 1 ws) ≡ (not (eqb (first ws) k) && has k ws)
 has-drop n k [] h = sym (and-false (not (eqb 0 k)))
 has-drop n k (x ∷ xs) h = test (eqb x k) (λ e. rw (e, ← eqb-true x k e) (h .2)) (λ e. rw e)
 

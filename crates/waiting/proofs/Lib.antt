@@ -2,6 +2,7 @@ pub mod Loops
 pub mod After
 pub mod Room
 pub mod Holds
+pub mod Unmoved
 pub mod Order
 pub mod Due
 pub mod Laws

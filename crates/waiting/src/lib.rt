@@ -6,7 +6,7 @@ ghost use Prim.Native.Nat.{_<_};
 ghost use lib.ListN.{set};
 ghost use Rattle.cases.specs.Padded.{pad};
 ghost use Rattle.waiting.specs.Line.{places, has, first as firstOf};
-ghost use Rattle.waiting.specs.Places.{joinIn, withdrawIn, takenIn};
+ghost use Rattle.waiting.specs.Places.{joinIn, withdrawIn, takenIn, waiting, Holds};
 ghost use Rattle.waiting.specs.Calls.{ifDue, joinsIn, withdrawsIn};
 
 // The kinds. Several that join in one call join in the order of these numbers.
@@ -94,9 +94,10 @@ pub fn first(line: Line) -> u8
 
 // The line once the first is sent.
 pub fn taken(line: Line) -> Line
+    requires { ⌜ Holds places line (waiting line) ⌝ }
     ensures { λ r. ⌜ r ≡ takenIn line ⌝ }
 {
-    withdraw(line, line[0])
+    [line[1], line[2], line[3], line[4], EMPTY]
 }
 
 pub fn join_if(line: Line, due: bool, kind: u8) -> Line
