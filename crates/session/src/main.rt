@@ -4,7 +4,6 @@ ghost use lib.ListN.{length};
 ghost use Rattle.promises.specs.Valid.{Valid};
 use libc::STDIN_FILENO;
 use libc::STDOUT_FILENO;
-use text::line;
 use transcript::Session;
 
 // The most that 4,096 bytes of input print: 64 for each.
@@ -31,7 +30,7 @@ fn turn(session: Session, out: &mut [u8]) -> After
         };
     }
     let count = io::count(got, &input);
-    let done = transcript::chunk(session, &input[..count], out);
+    let done = feeding::chunk(session, &input[..count], out);
     let len = done.len;
     let more = io::write_all(STDOUT_FILENO, &out[..len]);
     let next = done.session;
@@ -45,8 +44,8 @@ fn turn(session: Session, out: &mut [u8]) -> After
 fn finish(session: Session)
     requires { ⌜ Valid (session .head) ⌝ }
 {
-    let text = transcript::close(session);
-    let count = line::kept(text);
+    let text = feeding::close(session);
+    let count = lines::kept(text);
     let bytes = text.bytes;
     io::write_all(STDOUT_FILENO, &bytes[..count]);
 }
@@ -54,7 +53,7 @@ fn finish(session: Session)
 // A proved loop ends, and nothing says that the input does: the turns are counted down from a number that no run uses up.
 fn main() {
     let mut out = [0u8; ROOM];
-    let mut session = transcript::start();
+    let mut session = feeding::start();
     let mut more = true;
     let mut turns = u64::MAX;
     while more & (0 < turns) {

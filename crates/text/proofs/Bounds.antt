@@ -9,7 +9,8 @@ use Rattle.cases.specs.Tests.{within}
 use Rattle.cases.proofs.Cases.{by, both, first-each, _▸_, end}
 use borrow.Author.Tests.{leb-true}
 use Rattle.text.specs.Ascii.{ascii}
-use Rattle.text.specs.Grammar.{hex, decimal, fields, same, malformed, value, isNumber, isPair, all, pairsFor, frameOf, ticksOf, sampleOf, slotOf, command, parsed}
+use Rattle.text.specs.Grammar.{hex, decimal, fields, same, malformed, value, isNumber, isPair, all, pairsFor}
+use Rattle.text.specs.Grammar.{frameOf, ticksOf, sampleOf, slotOf, command, parsed}
 use Rattle.text.specs.Laws.{Within}
 use Rattle.text.specs.declared.Parsed.{Parsed}
 use Rattle.text.proofs.Numbers.{number-below}
@@ -34,7 +35,8 @@ ticks-good [] = tt
 ticks-good (n ∷ []) =
     by Good (isNumber decimal 4 n && within 1 1000 (value decimal n))
     (λ e.
-    let (low, high) = both (leb 1 (value decimal n)) (leb (value decimal n) 1000) (both (isNumber decimal 4 n) (within 1 1000 (value decimal n)) e .1) in
+    let inside = both (isNumber decimal 4 n) (within 1 1000 (value decimal n)) e .1 in
+    let (low, high) = both (leb 1 (value decimal n)) (leb (value decimal n) 1000) inside in
     (leb-true _ _ low, leb-true _ _ high))
     (λ _. tt)
 ticks-good (n ∷ more ∷ fs) = tt

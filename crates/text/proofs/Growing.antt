@@ -55,7 +55,9 @@ glue-nil (m ∷ ms) = refl
 
 glue-onto : (l : List ℕ) (b : ℕ) (ls : List (List ℕ)) → glue (l ++ b ∷ []) ls ≡ glue l (onto b ls)
 unfolding glue
-glue-onto l b [] = let n : length (l ++ b ∷ []) ≡ length l + 1 = length-append l (b ∷ []) in rw (n, ne-eqb (length l + 1) 0 (λ e. omega arith))
+glue-onto l b [] =
+    let n : length (l ++ b ∷ []) ≡ length l + 1 = length-append l (b ∷ []) in
+    rw (n, ne-eqb (length l + 1) 0 (λ e. omega arith))
 glue-onto l b (m ∷ ms) = rw append-assoc
 
 started : (l : List ℕ) → eqb (lineOf l .len) 0 ≡ eqb (length l) 0

@@ -1,12 +1,6 @@
-pub mod Digits
 pub mod Numbers
-pub mod Fields
 pub mod Padded
-pub mod Pairs
-pub mod Forms
-pub mod Keys
 pub mod Growing
-pub mod Printing
 pub mod Roundtrip
 pub mod Bounds
 pub mod Laws

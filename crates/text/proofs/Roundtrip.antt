@@ -27,7 +27,13 @@ digit-hex n h =
     rw (le-leb 48 (48 + n) (omega arith), le-leb (48 + n) 57 (omega arith)) (omega arith))
     (λ e.
     let k : 10 ≤ n = ltb-false _ _ e in
-    rw (le-leb 48 (55 + n) (omega arith), lt-leb (55 + n) 57 (omega arith), le-leb 65 (55 + n) (omega arith), le-leb (55 + n) 70 (omega arith)) (omega arith))
+    rw (
+      le-leb 48 (55 + n) (omega arith),
+      lt-leb (55 + n) 57 (omega arith),
+      le-leb 65 (55 + n) (omega arith),
+      le-leb (55 + n) 70 (omega arith),
+    )
+    (omega arith))
 
 digit-at : (w n : ℕ) → digitOf (digitAt w n) ≡ n / w % 16
 digit-at w n = digit-hex (n / w % 16) (mod-lt (n / w) (omega arith))

@@ -14,7 +14,7 @@ use Rattle.text.specs.Lines.{onto, atMost, longest, held}
 use Rattle.text.specs.declared.Command.{Command}
 use Rattle.text.specs.declared.Command.the-variants.{Malformed, Frame, Ticks, Sample, Missing, Slot}
 use Rattle.text.specs.declared.Parsed.{Parsed}
-use Rattle.text.specs.declared.line.Line.{Line}
+use Rattle.text.specs.declared.Line.{Line}
 
 -- fields parted by one space: one more than there are spaces, an empty one where two spaces meet
 abbrev pub fields : List ℕ → List (List ℕ)

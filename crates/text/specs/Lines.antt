@@ -7,7 +7,7 @@ use mathlib.Core.List.{List, [], _∷_}
 use lib.Dec.{eqb, ltb}
 use lib.ListN.{length, take, set}
 use Rattle.cases.specs.Padded.{pad}
-use Rattle.text.specs.declared.line.Line.{Line}
+use Rattle.text.specs.declared.Line.{Line}
 
 -- a byte in front of the first part
 abbrev pub onto : ℕ → List (List ℕ) → List (List ℕ)

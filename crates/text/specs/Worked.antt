@@ -19,7 +19,8 @@ sent id len bytes = record { identifier = id; length = len; bytes = pad 8 bytes 
 pub record Worked : Type 0 where
   -- 01's session: its input, its lines, and what they say
   pub session : lines (ascii "?\n?\nS 69637\n?\nF 601 8 40 04 60 00 00 00 00 00\n?\nS -\n?\n?\n")
-      ≡ ascii "?" ∷ ascii "?" ∷ ascii "S 69637" ∷ ascii "?" ∷ ascii "F 601 8 40 04 60 00 00 00 00 00" ∷ ascii "?" ∷ ascii "S -" ∷ ascii "?" ∷ ascii "?" ∷ []
+      ≡ ascii "?" ∷ ascii "?" ∷ ascii "S 69637" ∷ ascii "?" ∷ ascii "F 601 8 40 04 60 00 00 00 00 00" ∷ ascii "?"
+      ∷ ascii "S -" ∷ ascii "?" ∷ ascii "?" ∷ []
   pub slot : parsed (ascii "?") ≡ only Slot
   pub sample : parsed (ascii "S 69637") ≡ only (Sample 69637)
   pub frame : parsed (ascii "F 601 8 40 04 60 00 00 00 00 00") ≡ made (Frame 0x601 8) (0x40 ∷ 0x04 ∷ 0x60 ∷ [])
@@ -30,7 +31,8 @@ pub record Worked : Type 0 where
   pub emergency-over : frameText (sent 0x081 8 []) ≡ ascii "081 8 00 00 00 00 00 00 00 00\n"
   pub reply : frameText (sent 0x581 8 (0x43 ∷ 0x04 ∷ 0x60 ∷ 0x00 ∷ 0x05 ∷ 0x10 ∷ 0x01 ∷ [])) ≡ ascii "581 8 43 04 60 00 05 10 01 00\n"
   pub none : noneText ≡ ascii "-\n"
-  pub refusals : (refusalText 1 ≡ ascii "E 1\n") × (refusalText 2 ≡ ascii "E 2\n") × (refusalText 3 ≡ ascii "E 3\n") × (refusalText 9 ≡ ascii "E 9\n")
+  pub refusals : (refusalText 1 ≡ ascii "E 1\n") × (refusalText 2 ≡ ascii "E 2\n")
+      × (refusalText 3 ≡ ascii "E 3\n") × (refusalText 9 ≡ ascii "E 9\n")
   -- capitals; a frame of no bytes
   pub capitals : frameText (sent 0x7AB 2 (0xCD ∷ 0xEF ∷ [])) ≡ ascii "7AB 2 CD EF\n"
   pub no-bytes : frameText (sent 0x080 0 []) ≡ ascii "080 0\n"
@@ -70,7 +72,8 @@ pub record Worked : Type 0 where
   pub space-first : parsed (ascii " ?") ≡ malformed
   pub space-last : (parsed (ascii "? ") ≡ malformed) × (parsed (ascii "T 1 ") ≡ malformed) × (parsed (ascii "S - ") ≡ malformed)
   pub field-over : (parsed (ascii "? 1") ≡ malformed) × (parsed (ascii "T 1 1") ≡ malformed)
-  pub no-field : (parsed (ascii "T") ≡ malformed) × (parsed (ascii "T ") ≡ malformed) × (parsed (ascii "S") ≡ malformed) × (parsed (ascii "F") ≡ malformed)
+  pub no-field : (parsed (ascii "T") ≡ malformed) × (parsed (ascii "T ") ≡ malformed)
+      × (parsed (ascii "S") ≡ malformed) × (parsed (ascii "F") ≡ malformed)
   pub no-space : parsed (ascii "T1") ≡ malformed
   pub empty : parsed [] ≡ malformed
   -- carriage return, tab, 00h

@@ -1,9 +1,4 @@
-pub mod Samples
-pub mod Ticks
 pub mod Valid
-pub mod Ways
-pub mod Copying
-pub mod Feeding
 pub mod Short
 pub mod Whole
 pub mod Refusals

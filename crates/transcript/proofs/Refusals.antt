@@ -19,6 +19,7 @@ use Rattle.transcript.specs.Commands.{refused, told, frameIn, obeyed}
 use Rattle.transcript.specs.Talk.{reply}
 
 told-refused : {h : Head} {n : ℕ} (a : Answer) → (a .refusal ≡ 0 → ⊥) → a .refusal ≡ n → a .head ≡ h → told a ≡ refused n h
+unfolding told
 told-refused a z e p = rw (ne-eqb (a .refusal) 0 z, e, p)
 
 frame-refused : (h : Head) (f : Received) {n : ℕ} → 0 < n → refusalOf f ≡ n → told (received h f) ≡ refused n h

@@ -49,6 +49,7 @@ unfolding refusalText
 refusal-fits n = omega arith
 
 told-fits : (a : Answer) → length (told a .text) ≤ longest
+unfolding told
 told-fits a = by (λ (o : Outcome). length (o .text) ≤ longest) (eqb (a .refusal) 0) (λ _. omega arith) (λ _. refusal-fits (a .refusal))
 
 fits : (h : Head) (bytes : List ℕ) (c : Command) → length (obeyed h bytes c .text) ≤ longest

@@ -14,12 +14,13 @@ use Rattle.promises.proofs.Valid.{valid-step, valid-started}
 use Rattle.text.specs.Grammar.{saysLine}
 use Rattle.text.specs.declared.Command.{Command}
 use Rattle.text.specs.declared.Command.the-variants.{Malformed, Frame, Ticks, Sample, Missing, Slot}
-use Rattle.text.specs.declared.line.Line.{Line}
+use Rattle.text.specs.declared.Line.{Line}
 use Rattle.transcript.specs.declared.Session.{Session}
 use Rattle.transcript.specs.Commands.{Outcome, told, frameIn, ticks, obeyed}
 use Rattle.transcript.specs.Bytes.{answered, started, fed, after}
 
 valid-told : (a : Answer) → Valid (a .head) → Valid (told a .head)
+unfolding told
 valid-told a v = by (λ (o : Outcome). Valid (o .head)) (eqb (a .refusal) 0) (λ _. v) (λ _. v)
 
 valid-ticks : (n : ℕ) (h : Head) → Valid h → Valid (ticks n h)
@@ -47,4 +48,6 @@ valid-after s [] v = v
 valid-after s (b ∷ bs) v = valid-after (fed s b .session) bs (valid-fed s b v)
 
 pub valid-start : Valid (started .head)
-valid-start = valid-started 1 _ (omega arith) (omega arith) (record { vendor = omega arith; product = omega arith; revision = omega arith; serial = omega arith })
+valid-start =
+    valid-started 1 _ (omega arith) (omega arith)
+    (record { vendor = omega arith; product = omega arith; revision = omega arith; serial = omega arith })

@@ -9,13 +9,16 @@ use Rattle.cases.proofs.Cases.{test}
 use Rattle.parts.specs.declared.Head.{Head}
 use Rattle.text.specs.Lines.{lines, lineOf, blank, held, pushed, handed}
 use Rattle.text.specs.Grammar.{says}
-use Rattle.text.specs.declared.line.Line.{Line}
+use Rattle.text.specs.declared.Line.{Line}
 use Rattle.text.proofs.Laws.{laws}
 use Rattle.transcript.specs.declared.Session.{Session}
+use Rattle.transcript.specs.declared.Fed.{Fed}
 use Rattle.transcript.specs.Talk.{reply, talk}
 use Rattle.transcript.specs.Bytes.{replyOf, answered, session, fed, after, prints, closing}
-use Rattle.transcript.proofs.Ways.{fedOf}
 use Rattle.transcript.proofs.Short.{held-obeyed}
+
+abbrev pub fedOf : Session → Line → Fed
+fedOf s t = record { session = s; text = t }
 
 -- what the lines that are handed on print
 talked : Head → List Line → List ℕ
@@ -64,7 +67,8 @@ unfolding talked
 by-lines h [] = refl
 by-lines h (l ∷ ls) = rw (line-answered h l, held-obeyed h (says l .bytes) (says l .command), by-lines (reply h l .head) ls)
 
-pub whole : (h : Head) (input : List ℕ) → prints (session h blank) input ++ held (closing (after (session h blank) input)) ≡ talk h (lines input)
+pub whole : (h : Head) (input : List ℕ)
+    → prints (session h blank) input ++ held (closing (after (session h blank) input)) ≡ talk h (lines input)
 unfolding heard
 whole h input = by-bytes h blank input ∙ rw (laws .handed-lines input) (by-lines h (lines input))
 

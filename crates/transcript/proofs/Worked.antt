@@ -7,8 +7,9 @@ use Rattle.sdo.specs.Service.{due}
 use Rattle.promises.specs.Acts.{settledTo, act}
 use Rattle.text.specs.Grammar.{parsed}
 use Rattle.text.specs.Printed.{frameText, refusalText}
+use Rattle.transcript.specs.Commands.{told}
 use Rattle.transcript.specs.Worked.{Worked}
 
 pub worked : Worked
-unfolding entries table lookup shownAt written due act settledTo parsed frameText refusalText
+unfolding entries table lookup shownAt written due act settledTo parsed frameText refusalText told
 worked = record { printed = refl; refusals = refl }

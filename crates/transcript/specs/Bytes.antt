@@ -11,7 +11,7 @@ use Rattle.parts.specs.declared.Head.{Head}
 use Rattle.promises.specs.Node1.{node1}
 use Rattle.text.specs.Lines.{longest, lineOf, blank, held, pushed}
 use Rattle.text.specs.Grammar.{saysLine}
-use Rattle.text.specs.declared.line.Line.{Line}
+use Rattle.text.specs.declared.Line.{Line}
 use Rattle.transcript.specs.declared.Reply.{Reply}
 use Rattle.transcript.specs.declared.Session.{Session}
 use Rattle.transcript.specs.declared.Fed.{Fed}

@@ -31,7 +31,7 @@ abbrev pub refused : ℕ → Head → Outcome
 refused n h = outcome h (refusalText n)
 
 -- The head answers a refusal's number, 0 for none.
-abbrev pub told : Answer → Outcome
+unfoldable pub told : Answer → Outcome
 told a = cond (eqb (a .refusal) 0) (silent (a .head)) (refused (a .refusal) (a .head))
 
 -- A slot prints identifier (3 digits), length and bytes, capitals, or `-`

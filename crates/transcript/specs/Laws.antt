@@ -9,7 +9,7 @@ use Rattle.promises.specs.Valid.{Valid}
 use Rattle.text.specs.Lines.{lines, longest, lineOf, blank, held}
 use Rattle.text.specs.Grammar.{says}
 use Rattle.text.specs.declared.Command.the-variants.{Malformed, Frame, Sample}
-use Rattle.text.specs.declared.line.Line.{Line}
+use Rattle.text.specs.declared.Line.{Line}
 use Rattle.transcript.specs.declared.Session.{Session}
 use Rattle.transcript.specs.Commands.{refused, obeyed}
 use Rattle.transcript.specs.Talk.{reply, talk, transcript}
@@ -17,7 +17,8 @@ use Rattle.transcript.specs.Bytes.{replyOf, answered, session, started, 
 
 pub record Laws : Type 0 where
   -- what the bytes of an input print, one after the other, and its end: each line of the input in turn
-  pub whole : (h : Head) (input : List ℕ) → prints (session h blank) input ++ held (closing (after (session h blank) input)) ≡ talk h (lines input)
+  pub whole : (h : Head) (input : List ℕ)
+      → prints (session h blank) input ++ held (closing (after (session h blank) input)) ≡ talk h (lines input)
   -- and so of the program
   pub program : (input : List ℕ) → prints started input ++ held (closing (after started input)) ≡ transcript input
   -- a gathered line is answered as the line is

@@ -4,7 +4,7 @@ use mathlib.Core.Path.{_≡_}
 use mathlib.Core.List.{List}
 use Rattle.parts.specs.declared.Head.{Head}
 use Rattle.promises.specs.Valid.{Valid}
-use Rattle.text.specs.declared.line.Line.{Line}
+use Rattle.text.specs.declared.Line.{Line}
 use Rattle.transcript.specs.declared.Reply.{Reply}
 use Rattle.transcript.specs.declared.Session.{Session}
 use Rattle.transcript.specs.declared.Fed.{Fed}

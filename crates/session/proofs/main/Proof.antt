@@ -34,10 +34,14 @@ turn-requires : tie.Need-turn-requires Inv-loop μ-loop
 turn-requires c κs = search needs
 
 sub-turns : tie.Need-sub-turns Inv-loop μ-loop
-sub-turns c = let l = c .before .before .before .before in omega (arith, left (l .before .loop .more) (l .before .loop .turns) (l .loop-test .taken))
+sub-turns c =
+    let l = c .before .before .before .before in
+    omega (arith, left (l .before .loop .more) (l .before .loop .turns) (l .loop-test .taken))
 
 loop-less : tie.Need-loop-less Inv-loop μ-loop
-loop-less c = let l = c .before .before .before .before in omega (arith, left (l .before .loop .more) (l .before .loop .turns) (l .loop-test .taken))
+loop-less c =
+    let l = c .before .before .before .before in
+    omega (arith, left (l .before .loop .more) (l .before .loop .turns) (l .loop-test .taken))
 
 loop-again : tie.Need-loop-again Inv-loop μ-loop
 loop-again c = search needs

@@ -1,4 +1,4 @@
-use Rattle.transcript.proofs.Feeding.{chunk-share, chunk-shared}
+use Rattle.feeding.proofs.Feeding.{chunk-share, chunk-shared}
 use borrow.Author.Needs.{needs}
 use Rattle.session.proofs.turn.Statement.{statement}
 use Rattle.session.proofs.turn.Tie as tie
