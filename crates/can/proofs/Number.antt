@@ -2,7 +2,8 @@
 use Prim.Native.Nat.{ℕ, zero, suc, _+_, _*_, _/_, _%_, _^_, _<_}
 use mathlib.Core.Path.{_≡_, refl, ap, _∙_}
 use mathlib.Core.List.{List, [], _∷_, _++_}
-use native.Mathlib.Nat.{mod-lt, mod-add-div, pow-suc, div-lt-iff-lt-mul, add-mul-mod-self-left, add-mul-div-left, mod-eq-of-lt, div-eq-of-lt, zero-add, suc-add}
+use native.Mathlib.Nat.{mod-lt, mod-add-div, pow-suc, div-lt-iff-lt-mul, add-mul-mod-self-left, add-mul-div-left, mod-eq-of-lt}
+use native.Mathlib.Nat.{div-eq-of-lt, zero-add, suc-add}
 use native.Mathlib.Omega.{arith}
 use lib.ListN.{length, replicate}
 use Rattle.can.specs.Number.{lowFirst, number, AreBytes, Numbers}
@@ -19,7 +20,8 @@ again : (bs : List ℕ) → AreBytes bs → lowFirst (length bs) (number bs) ≡
 again [] h = refl
 again (b ∷ bs) h =
     let low : (b + 256 * number bs) % 256 ≡ b = add-mul-mod-self-left b 256 (number bs) ∙ mod-eq-of-lt (h .0) in
-    let high : (b + 256 * number bs) / 256 ≡ number bs = add-mul-div-left b (number bs) (omega arith) ∙ rw (div-eq-of-lt (h .0)) (zero-add (number bs)) in
+    let high : (b + 256 * number bs) / 256 ≡ number bs = add-mul-div-left b (number bs) (omega arith)
+    ∙ rw (div-eq-of-lt (h .0)) (zero-add (number bs)) in
     rw (low, high, again bs (h .1))
 
 long : (w v : ℕ) → length (lowFirst w v) ≡ w

@@ -11,11 +11,11 @@ pub type Bytes = [u8; 8];
 // A frame as the host hands it over. `extended`: its identifier has 29 bits and not 11.
 #[repr(C)]
 pub struct Received {
+    pub bytes: Bytes,
     pub identifier: u32,
     pub extended: bool,
     pub remote: bool,
     pub length: u8,
-    pub bytes: Bytes,
 }
 
 // A frame to send: a data frame with an 11-bit identifier.

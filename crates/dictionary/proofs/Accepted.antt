@@ -1,4 +1,5 @@
--- The value's abort code comes before the state's, and a write that has neither is accepted and not barred. By the cases of the tests. Assumes nothing.
+-- The value's abort code comes before the state's, and a write that has neither is accepted and not barred. By the cases of the
+-- tests. Assumes nothing.
 use Prim.Native.Nat.{ℕ}
 use native.Mathlib.Omega.{arith}
 use mathlib.Core.Path.{_≡_, refl, _∙_}
@@ -6,47 +7,48 @@ use mathlib.Core.Bool.{Bool, true, false, not, cond}
 use Rattle.entries.specs.declared.Device.{Device}
 use Rattle.entries.specs.declared.table.Row.{Row}
 use Rattle.entries.specs.Table.{keyOf}
-use Rattle.dictionary.specs.Accepted.{acceptsIn, isSignature, valueRefusal, barred, refusal}
+use Rattle.dictionary.specs.AbortCodes.{invalidValue, wrongSignature, deviceState}
+use Rattle.dictionary.specs.Accepted.{acceptsIn, isSignature, valueAbortCode, barred, abortCode}
 
 -- the code of a value that is accepted or not, of a signature or not
 abbrev code : Bool → Bool → ℕ
-code a s = cond a 0 (cond s 0x08000020 0x06090030)
+code a s = cond a 0 (cond s wrongSignature invalidValue)
 
 -- the code of one that is barred or not
 abbrev state : Bool → ℕ
-state b = cond b 0x08000022 0
+state b = cond b deviceState 0
 
-refused : (a s b : Bool) → (code a s ≡ 0 → ⊥) → code a s ≡ cond (not a) (cond s 0x08000020 0x06090030) (state b)
-refused true s b h = absurd (h refl)
-refused false s b h = refl
+aborted : (a s b : Bool) → (code a s ≡ 0 → ⊥) → code a s ≡ cond (not a) (cond s wrongSignature invalidValue) (state b)
+aborted true s b h = absurd (h refl)
+aborted false s b h = refl
 
-free : (a s b : Bool) → code a s ≡ 0 → state b ≡ cond (not a) (cond s 0x08000020 0x06090030) (state b)
+free : (a s b : Bool) → code a s ≡ 0 → state b ≡ cond (not a) (cond s wrongSignature invalidValue) (state b)
 free true s b h = refl
 free false true b h = absurd (omega arith)
 free false false b h = absurd (omega arith)
 
-unrefused : (a s b : Bool) → cond (not a) (cond s 0x08000020 0x06090030) (state b) ≡ 0 → (a ≡ true) × (b ≡ false)
-unrefused true s true e = absurd (omega arith)
-unrefused true s false e = (refl, refl)
-unrefused false true b e = absurd (omega arith)
-unrefused false false b e = absurd (omega arith)
+unaborted : (a s b : Bool) → cond (not a) (cond s wrongSignature invalidValue) (state b) ≡ 0 → (a ≡ true) × (b ≡ false)
+unaborted true s true e = absurd (omega arith)
+unaborted true s false e = (refl, refl)
+unaborted false true b e = absurd (omega arith)
+unaborted false false b e = absurd (omega arith)
 
-module _ (d : Device) (r : Row) (v x : ℕ) (e : x ≡ valueRefusal (r .4) (d .node) (d .settings .profile .range) v) where
+module _ (d : Device) (r : Row) (v x : ℕ) (e : x ≡ valueAbortCode (r .4) (d .node) (d .settings .profile .range) v) where
   abbrev accepted : Bool
   accepted = acceptsIn d r v
 
   abbrev stops : Bool
   stops = barred d (keyOf (r .0) (r .1)) v
 
-  pub value-first : (x ≡ 0 → ⊥) → x ≡ refusal d r v
-  unfolding refusal
-  value-first h = e ∙ refused accepted (isSignature (r .4)) stops (λ z. h (e ∙ z))
+  pub value-first : (x ≡ 0 → ⊥) → x ≡ abortCode d r v
+  unfolding abortCode
+  value-first h = e ∙ aborted accepted (isSignature (r .4)) stops (λ z. h (e ∙ z))
 
-  pub state-next : (b : Bool) → b ≡ barred d (keyOf (r .0) (r .1)) v → x ≡ 0 → state b ≡ refusal d r v
-  unfolding refusal
+  pub state-next : (b : Bool) → b ≡ barred d (keyOf (r .0) (r .1)) v → x ≡ 0 → state b ≡ abortCode d r v
+  unfolding abortCode
   state-next b f h = rw f (free accepted (isSignature (r .4)) stops (rw (← e) h))
 
-pub taken : (d : Device) (r : Row) (v : ℕ) → refusal d r v ≡ 0
+pub taken : (d : Device) (r : Row) (v : ℕ) → abortCode d r v ≡ 0
     → (acceptsIn d r v ≡ true) × (barred d (keyOf (r .0) (r .1)) v ≡ false)
-unfolding refusal
-taken d r v e = unrefused (acceptsIn d r v) (isSignature (r .4)) (barred d (keyOf (r .0) (r .1)) v) e
+unfolding abortCode
+taken d r v e = unaborted (acceptsIn d r v) (isSignature (r .4)) (barred d (keyOf (r .0) (r .1)) v) e

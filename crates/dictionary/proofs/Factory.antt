@@ -25,8 +25,18 @@ factory-valid n l h =
         emergency-fits = omega arith;
         inhibit = omega arith;
         heartbeat = omega arith;
-        pdo1 = record { identifier = between (0x180 + n) (omega arith) (omega arith); identifier-fits = omega arith; transmission = refl; event = omega arith };
-        pdo2 = record { identifier = between (0x280 + n) (omega arith) (omega arith); identifier-fits = omega arith; transmission = refl; event = omega arith };
+        pdo1 = record {
+          identifier = between (0x180 + n) (omega arith) (omega arith);
+          identifier-fits = omega arith;
+          transmission = refl;
+          event = omega arith;
+        };
+        pdo2 = record {
+          identifier = between (0x280 + n) (omega arith) (omega arith);
+          identifier-fits = omega arith;
+          transmission = refl;
+          event = omega arith;
+        };
       };
       profile = worked .factory-valid;
     }

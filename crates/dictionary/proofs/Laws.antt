@@ -20,7 +20,8 @@ use Rattle.dictionary.proofs.Typed.{typed}
 pub shows : (d : Device) (o : Bool) (i j : ℕ) {p : ℕ} {s : Shown} → lookup i j ≡ At p → shownAt d o p ≡ s → Shows d o i j s
 shows d o i j e f = ap (readOf d o) e ∙ ap some f
 
-second-reads : (d : Device) (o : Bool) → let event = Number (d .settings .communication .pdo1 .event) in Shows d o 0x1800 5 event × Shows d o 0x6200 0 event
+second-reads : (d : Device) (o : Bool)
+    → let event = Number (d .settings .communication .pdo1 .event) in Shows d o 0x1800 5 event × Shows d o 0x6200 0 event
 unfolding table entries lookup shownAt
 second-reads d o = (shows d o 0x1800 5 refl refl, shows d o 0x6200 0 refl refl)
 

@@ -6,4 +6,5 @@ pub mod Valid
 pub mod Typed
 pub mod ReadBack
 pub mod Laws
+pub mod Effects
 pub mod Worked

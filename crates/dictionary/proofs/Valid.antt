@@ -18,7 +18,9 @@ use Rattle.entries.specs.declared.Device.{Device}
 use Rattle.entries.specs.declared.table.Row.{Row}
 use Rattle.entries.specs.Settings.{pdo}
 use Rattle.entries.specs.Table.{missing, entries, table, noRow, rowAt, key}
-use Rattle.dictionary.specs.Accepted.{emergencyIdentifier, pdoIdentifier, transmissionType, operatingParameters, pdoBarred, accepts, acceptsIn}
+use Rattle.entries.specs.Keys.{errorCountKey, saveKey, loadKey, tpdo1, tpdo2, rangeKey, presetKey, stepKey}
+use Rattle.dictionary.specs.Accepted.{emergencyIdentifier, pdoIdentifier, transmissionType, operatingParameters, pdoBarred, accepts}
+use Rattle.dictionary.specs.Accepted.{acceptsIn}
 use Rattle.dictionary.specs.Writes.{rangeFor, rescaledTo, written, Fits}
 use Rattle.dictionary.specs.Valid.{ValidPdo, ValidCommunication, ValidSettings, ValidDevice}
 use Rattle.dictionary.specs.Laws.{Takes}
@@ -53,24 +55,46 @@ module _ {n : ℕ} {s : Settings} (h : ValidSettings n s) where
   k : ValidCommunication n c
   k = h .communication
 
-  emergency-is : (v : ℕ) → emergencyIdentifier n v ≡ true → v < 256 ^ 4 → ValidSettings n (settings v (c .inhibit) (c .heartbeat) (c .pdo1) (c .pdo2) (s .profile))
+  emergency-is : (v : ℕ) → emergencyIdentifier n v ≡ true → v < 256 ^ 4
+      → ValidSettings n (settings v (c .inhibit) (c .heartbeat) (c .pdo1) (c .pdo2) (s .profile))
   emergency-is v a l =
       record {
-        communication = record { emergency = a; emergency-fits = up-to l; inhibit = k .inhibit; heartbeat = k .heartbeat; pdo1 = k .pdo1; pdo2 = k .pdo2 };
+        communication = record {
+          emergency = a;
+          emergency-fits = up-to l;
+          inhibit = k .inhibit;
+          heartbeat = k .heartbeat;
+          pdo1 = k .pdo1;
+          pdo2 = k .pdo2;
+        };
         profile = h .profile;
       }
 
   times-are : (i b : ℕ) → i ≤ 0xFFFF → b ≤ 0xFFFF → ValidSettings n (settings (c .emergency) i b (c .pdo1) (c .pdo2) (s .profile))
   times-are i b l m =
       record {
-        communication = record { emergency = k .emergency; emergency-fits = k .emergency-fits; inhibit = l; heartbeat = m; pdo1 = k .pdo1; pdo2 = k .pdo2 };
+        communication = record {
+          emergency = k .emergency;
+          emergency-fits = k .emergency-fits;
+          inhibit = l;
+          heartbeat = m;
+          pdo1 = k .pdo1;
+          pdo2 = k .pdo2;
+        };
         profile = h .profile;
       }
 
   pdos-are : {p q : Pdo} → ValidPdo p → ValidPdo q → ValidSettings n (settings (c .emergency) (c .inhibit) (c .heartbeat) p q (s .profile))
   pdos-are l m =
       record {
-        communication = record { emergency = k .emergency; emergency-fits = k .emergency-fits; inhibit = k .inhibit; heartbeat = k .heartbeat; pdo1 = l; pdo2 = m };
+        communication = record {
+          emergency = k .emergency;
+          emergency-fits = k .emergency-fits;
+          inhibit = k .inhibit;
+          heartbeat = k .heartbeat;
+          pdo1 = l;
+          pdo2 = m;
+        };
         profile = h .profile;
       }
 
@@ -78,10 +102,22 @@ module _ {n : ℕ} {s : Settings} (h : ValidSettings n s) where
   profile-is l = record { communication = k; profile = l }
 
 -- with 6003h and the offset 0
-rescaled-is : (o t s : ℕ) → o % 4 ≡ 0 → o < 16 → 1000 ≤ t → t ≤ fullRange → (bit scalingBit o ≡ false → t ≡ fullRange) → (bit scalingBit o ≡ true → t ≤ scaledRange)
+rescaled-is : (o t s : ℕ) → o % 4 ≡ 0 → o < 16 → 1000 ≤ t → t ≤ fullRange → (bit scalingBit o ≡ false → t ≡ fullRange)
+    → (bit scalingBit o ≡ true → t ≤ scaledRange)
     → 5000 ≤ s → s ≤ 1000000 → ValidProfile (rescaledTo o t s)
 rescaled-is o t s e b l m f g i j =
-    record { bits-low = e; bits-high = b; low = l; high = m; full = f; scaled = g; preset = omega arith; step-low = i; step-high = j; offset = omega arith }
+    record {
+      bits-low = e;
+      bits-high = b;
+      low = l;
+      high = m;
+      full = f;
+      scaled = g;
+      preset = omega arith;
+      step-low = i;
+      step-high = j;
+      offset = omega arith;
+    }
 
 module _ {p : Profile} (v : ℕ) (h : ValidProfile p) where
   operating-is : operatingParameters v ≡ true → ValidProfile (rescaledTo v (rangeFor v) (p .step))
@@ -93,28 +129,32 @@ module _ {p : Profile} (v : ℕ) (h : ValidProfile p) where
       (by (λ t. t ≤ fullRange) (bit scalingBit v) (λ _. omega arith) (λ _. omega arith))
       (λ e. rw e) (λ e. rw e (omega arith)) (h .step-low) (h .step-high)
 
-  range-is : within 1000 1000000 v ≡ true → not (bit scalingBit (p .operating)) ≡ false → ValidProfile (rescaledTo (p .operating) v (p .step))
+  range-is : within 1000 1000000 v ≡ true → not (bit scalingBit (p .operating)) ≡ false
+      → ValidProfile (rescaledTo (p .operating) v (p .step))
   range-is a s =
       let bounds = both (leb 1000 v) (leb v 1000000) a in
       let low = leb-true _ _ (bounds .0) in
       let high = leb-true _ _ (bounds .1) in
       let on = not-false _ s in
-      rescaled-is (p .operating) v (p .step) (h .bits-low) (h .bits-high) low (omega arith) (λ e. true-false (sym on ∙ e)) (λ _. high) (h .step-low) (h .step-high)
+      rescaled-is (p .operating) v (p .step) (h .bits-low) (h .bits-high) low (omega arith) (λ e. true-false (sym on ∙ e))
+      (λ _. high) (h .step-low) (h .step-high)
 
   step-is : within 5000 1000000 v ≡ true → ValidProfile (rescaledTo (p .operating) (p .range) v)
   step-is a =
       let bounds = both (leb 5000 v) (leb v 1000000) a in
-      rescaled-is (p .operating) (p .range) v (h .bits-low) (h .bits-high) (h .low) (h .high) (h .full) (h .scaled) (leb-true _ _ (bounds .0)) (leb-true _ _ (bounds .1))
+      rescaled-is (p .operating) (p .range) v (h .bits-low) (h .bits-high) (h .low) (h .high) (h .full) (h .scaled)
+      (leb-true _ _ (bounds .0)) (leb-true _ _ (bounds .1))
 
 -- what is known of v where the entry of a row takes it
 record Taken (d : Device) (r : Row) (v : ℕ) : Type 0 where
   long : v < 256 ^ (r .2)
   accepted : acceptsIn d r v ≡ true
   -- it is not 6002h or 6005h with scaling off
-  scaling : ((eqb (key r) 0x6002_00 || eqb (key r) 0x6005_01) && not (bit scalingBit (d .settings .profile .operating))) ≡ false
+  scaling : ((eqb (key r) rangeKey || eqb (key r) stepKey) && not (bit scalingBit (d .settings .profile .operating))) ≡ false
 
 Keeps : Row → Type 0
-Keeps r = (d : Device) (v : ℕ) → Taken d r v → ValidSettings (d .node) (d .settings) → ValidSettings (d .node) (written d (key r) v .settings)
+Keeps r =
+    (d : Device) (v : ℕ) → Taken d r v → ValidSettings (d .node) (d .settings) → ValidSettings (d .node) (written d (key r) v .settings)
 
 keeps : Each Keeps (those (λ r. r .3) table)
 unfolding Keeps table entries written
@@ -142,7 +182,7 @@ keeps =
 Below : Row → Type 0
 Below r = (n t v : ℕ) → accepts (r .4) n t v ≡ true → v < t
 
-below : Each Below (those (λ r. eqb (key r) 0x6003_00) table)
+below : Each Below (those (λ r. eqb (key r) presetKey) table)
 unfolding Below table entries
 below = (λ n t v a. ltb-true v t a) ▸ end
 
@@ -150,17 +190,19 @@ module _ (d : Device) (p v : ℕ) (t : Takes d p v) where
   known : Taken d (rowAt p) v
   known =
       let k = key (rowAt p) in
-      let scaling = (eqb k 0x6002_00 || eqb k 0x6005_01) && not (bit scalingBit (d .settings .profile .operating)) in
-      let preset = eqb k 0x6003_00 && missing d in
-      let pdo1 = pdoBarred 0x1800 (d .settings .communication .pdo1) k v in
-      let pdo2 = pdoBarred 0x1801 (d .settings .communication .pdo2) k v in
-      let u = taken d (rowAt p) v (t .unrefused) in
+      let scaling = (eqb k rangeKey || eqb k stepKey) && not (bit scalingBit (d .settings .profile .operating)) in
+      let preset = eqb k presetKey && missing d in
+      let pdo1 = pdoBarred tpdo1 (d .settings .communication .pdo1) k v in
+      let pdo2 = pdoBarred tpdo2 (d .settings .communication .pdo2) k v in
+      let u = taken d (rowAt p) v (t .unaborted) in
       let free = neither (scaling || preset || pdo1) pdo2 (u .1) .0 in
       record { long = t .long; accepted = u .0; scaling = neither scaling preset (neither (scaling || preset) pdo1 free .0) .0 }
 
   pub written-fits : Fits (d .settings .profile) (key (rowAt p)) v
   unfolding Below
-  written-fits e = at-each Below (λ r. eqb (key r) 0x6003_00) table noRow p below (t .stands) (eq-eqb _ _ e) (d .node) (d .settings .profile .range) v (known .accepted)
+  written-fits e =
+      at-each Below (λ r. eqb (key r) presetKey) table noRow p below (t .stands) (eq-eqb _ _ e) (d .node)
+      (d .settings .profile .range) v (known .accepted)
 
   pub written-valid : ValidDevice d → ValidDevice (written d (key (rowAt p)) v)
   unfolding Keeps written
@@ -172,7 +214,9 @@ module _ (d : Device) (p v : ℕ) (t : Takes d p v) where
         identity = h .identity;
         raw = h .raw;
         raw-missing = h .raw-missing;
-        errors = by (λ n. n ≤ 4) (eqb k 0x1003_00) (λ _. omega arith) (λ _. h .errors);
+        errors = by (λ n. n ≤ 4) (eqb k errorCountKey) (λ _. omega arith) (λ _. h .errors);
         settings = at-each Keeps (λ r. r .3) table noRow p keeps (t .stands) (t .writable) d v known (h .settings);
-        saved = by (ValidSettings (d .node)) (eqb k 0x1010_01) (λ _. h .settings) (λ _. by (ValidSettings (d .node)) (eqb k 0x1011_01) (λ _. factory-valid (d .node) (h .node-low) (h .node-high)) (λ _. h .saved));
+        saved =
+            by (ValidSettings (d .node)) (eqb k saveKey) (λ _. h .settings)
+            (λ _. by (ValidSettings (d .node)) (eqb k loadKey) (λ _. factory-valid (d .node) (h .node-low) (h .node-high)) (λ _. h .saved));
       }

@@ -7,7 +7,7 @@ use Rattle.cases.proofs.Cases.{true-false}
 use Rattle.entries.specs.declared.table.Found.{Found}
 use Rattle.entries.specs.declared.table.Found.the-variants.{At, NoSubIndex, NoIndex}
 use Rattle.entries.specs.Table.{entries, table, lookup}
-use Rattle.dictionary.specs.Accepted.{refusal}
+use Rattle.dictionary.specs.Accepted.{abortCode}
 use Rattle.dictionary.specs.Reads.{shownAt}
 use Rattle.dictionary.specs.Writes.{written}
 use Rattle.dictionary.specs.Valid.{ValidDevice}
@@ -35,18 +35,21 @@ placeOf NoSubIndex = 0
 placeOf NoIndex = 0
 
 ready-valid : ValidDevice ready
-unfolding entries table lookup placeOf refusal written
+unfolding entries table lookup placeOf abortCode written
 ready-valid =
-    let one = laws .written-valid (at 100) (placeOf (lookup 0x1800 1)) 0x80000181 (record { stands = omega arith; writable = refl; long = omega arith; unrefused = refl }) at-valid in
-    let two = laws .written-valid _ (placeOf (lookup 0x1801 1)) 0x80000281 (record { stands = omega arith; writable = refl; long = omega arith; unrefused = refl }) one in
-    laws .written-valid _ (placeOf (lookup 0x6000 0)) 4 (record { stands = omega arith; writable = refl; long = omega arith; unrefused = refl }) two
+    let one = laws .written-valid (at 100) (placeOf (lookup 0x1800 1)) 0x80000181
+    (record { stands = omega arith; writable = refl; long = omega arith; unaborted = refl }) at-valid in
+    let two = laws .written-valid _ (placeOf (lookup 0x1801 1)) 0x80000281
+    (record { stands = omega arith; writable = refl; long = omega arith; unaborted = refl }) one in
+    laws .written-valid _ (placeOf (lookup 0x6000 0)) 4
+    (record { stands = omega arith; writable = refl; long = omega arith; unaborted = refl }) two
 
 ends-accepted : endEach ready ends ≡ true
-unfolding entries table lookup refusal written
+unfolding entries table lookup abortCode written
 ends-accepted = refl
 
 pub worked : Worked
-unfolding entries table lookup refusal shownAt written
+unfolding entries table lookup abortCode shownAt written
 worked =
     record {
       type = refl;

@@ -1,4 +1,5 @@
--- 01's chapter "Entries", the column of accepted values, and the states in which an entry can be written: steps 5 and 6 of "First that applies".
+-- 01's chapter "Entries", the column of accepted values, and the states in which an entry can be written: steps 5 and 6 of "First
+-- that applies".
 use Prim.Native.Nat.{ℕ, _+_, _/_, _%_}
 use lib.Dec.{eqb, ltb}
 use mathlib.Core.Bool.{Bool, true, false, not, _&&_, _||_, cond}
@@ -10,8 +11,11 @@ use Rattle.entries.specs.declared.Pdo.{Pdo}
 use Rattle.entries.specs.declared.Device.{Device}
 use Rattle.entries.specs.declared.table.Row.{Row}
 use Rattle.entries.specs.declared.table.Accepted.{Accepted}
-use Rattle.entries.specs.declared.table.Accepted.the-variants.{Nothing, All, Only, Signature, Between, EmergencyIdentifier, PdoIdentifier, TransmissionType, OperatingParameters, BelowRange}
-use Rattle.entries.specs.Table.{missing, accepted, keyOf, key}
+use Rattle.entries.specs.declared.table.Accepted.the-variants.{Nothing, All, Only, Signature, Between, EmergencyIdentifier, PdoIdentifier}
+use Rattle.entries.specs.declared.table.Accepted.the-variants.{TransmissionType, OperatingParameters, BelowRange}
+use Rattle.entries.specs.Table.{missing, accepted, key}
+use Rattle.entries.specs.Keys.{tpdo1, tpdo2, identifierKeyOf, typeKeyOf, rangeKey, presetKey, stepKey}
+use Rattle.dictionary.specs.AbortCodes.{invalidValue, wrongSignature, deviceState}
 
 -- switched on: bit 31 is 0
 abbrev pub on : ℕ → Bool
@@ -62,33 +66,33 @@ isSignature BelowRange = false
 
 -- value: 0609 0030h; for 1010-1, 1011-1 a wrong signature 0800 0020h
 abbrev pub valueCode : Accepted → ℕ
-valueCode a = cond (isSignature a) 0x08000020 0x06090030
+valueCode a = cond (isSignature a) wrongSignature invalidValue
 
-abbrev pub valueRefusal : Accepted → ℕ → ℕ → ℕ → ℕ
-valueRefusal a n t v = cond (accepts a n t v) 0 (valueCode a)
+abbrev pub valueAbortCode : Accepted → ℕ → ℕ → ℕ → ℕ
+valueAbortCode a n t v = cond (accepts a n t v) 0 (valueCode a)
 
 -- While a PDO is on, a write with bit 31 clear must repeat the held value, and sub 2 can't be written.
 abbrev pub pdoBarred : ℕ → Pdo → ℕ → ℕ → Bool
 pdoBarred index pdo k v =
     let held = pdo .identifier in
-    eqb k (keyOf index 1) && on held && on v && not (eqb v held) || eqb k (keyOf index 2) && on held
+    eqb k (identifierKeyOf index) && on held && on v && not (eqb v held) || eqb k (typeKeyOf index) && on held
 
 -- 6002h or 6005h with scaling off, 6003h while missing, a PDO that is on as above
 abbrev pub barred : Device → ℕ → ℕ → Bool
 barred d k v =
-    (eqb k 0x6002_00 || eqb k 0x6005_01) && not (bit scalingBit (d .settings .profile .operating))
-    || eqb k 0x6003_00 && missing d
-    || pdoBarred 0x1800 (d .settings .communication .pdo1) k v
-    || pdoBarred 0x1801 (d .settings .communication .pdo2) k v
+    (eqb k rangeKey || eqb k stepKey) && not (bit scalingBit (d .settings .profile .operating))
+    || eqb k presetKey && missing d
+    || pdoBarred tpdo1 (d .settings .communication .pdo1) k v
+    || pdoBarred tpdo2 (d .settings .communication .pdo2) k v
 
 -- whether the entry of a row accepts v
 abbrev pub acceptsIn : Device → Row → ℕ → Bool
 acceptsIn d r v = accepts (accepted r) (d .node) (d .settings .profile .range) v
 
 -- The abort code that is due to a write of v to the entry of a row, for its value and then for the state; 0 for none.
-unfoldable pub refusal : Device → Row → ℕ → ℕ
-refusal d r v =
+unfoldable pub abortCode : Device → Row → ℕ → ℕ
+abortCode d r v =
     firstOf (
     (not (acceptsIn d r v), valueCode (accepted r)) ∷
-    (barred d (key r) v, 0x08000022) ∷ [])
+    (barred d (key r) v, deviceState) ∷ [])
     0

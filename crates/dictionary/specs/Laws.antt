@@ -10,17 +10,17 @@ use Rattle.entries.specs.Settings.{factory}
 use Rattle.entries.specs.Table.{entries, table, rowAt, width, isRw, accepted, key}
 use Rattle.dictionary.specs.declared.read.Shown.{Shown}
 use Rattle.dictionary.specs.declared.read.Shown.the-variants.{Number}
-use Rattle.dictionary.specs.Accepted.{isSignature, refusal}
+use Rattle.dictionary.specs.Accepted.{isSignature, abortCode}
 use Rattle.dictionary.specs.Reads.{noEntry, reads}
 use Rattle.dictionary.specs.Writes.{written, Fits}
 use Rattle.dictionary.specs.Valid.{ValidSettings, ValidDevice}
 
--- The entry at place p takes a write of v: it is rw, v has its length, and neither the value nor the state refuses it.
+-- The entry at place p takes a write of v: it is rw, v has its length, and neither the value nor the state aborts it.
 pub record Takes (d : Device) (p v : ℕ) : Type 0 where
   pub stands : p < length table
   pub writable : isRw (rowAt p) ≡ true
   pub long : v < 256 ^ width (rowAt p)
-  pub unrefused : refusal d (rowAt p) v ≡ 0
+  pub unaborted : abortCode d (rowAt p) v ≡ 0
 
 -- The entry i-j of the device d, Operational or not, reads s.
 abbrev pub Shows : Device → Bool → ℕ → ℕ → Shown → Type 0
@@ -37,7 +37,9 @@ pub record Laws : Type 0 where
   pub reads-back : (d : Device) (o : Bool) (p v : ℕ) → Takes d p v
       → getD entries p noEntry .number (written d (key (rowAt p)) v) o ≡ cond (isSignature (accepted (rowAt p))) 1 v
   -- A number has no more bytes than its entry's type.
-  pub typed : (d : Device) (o : Bool) (p : ℕ) → p < length table → ValidDevice d → getD entries p noEntry .number d o < 256 ^ width (rowAt p)
+  pub typed : (d : Device) (o : Bool) (p : ℕ) → p < length table → ValidDevice d
+      → getD entries p noEntry .number d o < 256 ^ width (rowAt p)
   -- 6200-0: 1800-5 under a second index
-  pub second-reads : (d : Device) (o : Bool) → let event = Number (d .settings .communication .pdo1 .event) in Shows d o 0x1800 5 event × Shows d o 0x6200 0 event
+  pub second-reads : (d : Device) (o : Bool)
+      → let event = Number (d .settings .communication .pdo1 .event) in Shows d o 0x1800 5 event × Shows d o 0x6200 0 event
   pub second-writes : (d : Device) (v : ℕ) → written d 0x6200_00 v ≡ written d 0x1800_05 v

@@ -3,7 +3,7 @@
 use Prim.Native.Nat.{ℕ, _≤_}
 use mathlib.Core.Path.{_≡_}
 use mathlib.Core.Bool.{true, false}
-use Rattle.position.specs.Profile.{ValidProfile}
+use Rattle.position.specs.Profile.{highestRaw, ValidProfile}
 use Rattle.entries.specs.declared.Pdo.{Pdo}
 use Rattle.entries.specs.declared.Communication.{Communication}
 use Rattle.entries.specs.declared.Settings.{Settings}
@@ -51,7 +51,7 @@ pub record ValidDevice (d : Device) : Type 0 where
   pub node-high : d .node ≤ 127
   pub identity : ValidIdentity (d .identity)
   -- raw sample up to 1,048,575; one above is refused with 3
-  pub raw : d .reading .raw ≤ 1048575
+  pub raw : d .reading .raw ≤ highestRaw
   -- a missing sample has none
   pub raw-missing : d .reading .good ≡ false → d .reading .raw ≡ 0
   -- 1003-0: count 0..4

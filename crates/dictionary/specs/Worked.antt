@@ -1,4 +1,4 @@
--- 01's own numbers, worked out at node 1 with factory settings: what entries read, which writes are refused, and what writes do.
+-- 01's own numbers, worked out at node 1 with factory settings: what entries read, which writes are aborted, and what writes do.
 -- 01, chapters "Worked numbers", "Entries", "Position" and "Service requests".
 use Prim.Native.Nat.{ℕ, _^_}
 use lib.Dec.{eqb, ltb}
@@ -14,7 +14,7 @@ use Rattle.entries.specs.Settings.{factory}
 use Rattle.entries.specs.Table.{table, rowAt, width, isRw, key, lookup}
 use Rattle.dictionary.specs.declared.read.Shown.{Shown}
 use Rattle.dictionary.specs.declared.read.Shown.the-variants.{Blank, Number}
-use Rattle.dictionary.specs.Accepted.{refusal}
+use Rattle.dictionary.specs.Accepted.{abortCode}
 use Rattle.dictionary.specs.Reads.{reads}
 use Rattle.dictionary.specs.Writes.{written}
 use Rattle.dictionary.specs.Valid.{ValidDevice}
@@ -62,14 +62,14 @@ abbrev pub Reads : Device → ℕ → ℕ → Shown → Type 0
 Reads d i j s = Shows d false i j s
 
 -- what the entry that is found answers to a write of v; none where none is found
-abbrev pub refusalOf : Device → ℕ → Found → Option ℕ
-refusalOf d v (At p) = some (refusal d (rowAt p) v)
-refusalOf d v NoSubIndex = none
-refusalOf d v NoIndex = none
+abbrev pub abortCodeOf : Device → ℕ → Found → Option ℕ
+abortCodeOf d v (At p) = some (abortCode d (rowAt p) v)
+abortCodeOf d v NoSubIndex = none
+abortCodeOf d v NoIndex = none
 
--- A write of v to the entry i-j is refused with this abort code; 0: it is accepted.
+-- A write of v to the entry i-j is aborted with this code; 0: it is accepted.
 abbrev pub Answers : Device → ℕ → ℕ → ℕ → ℕ → Type 0
-Answers d i j v code = refusalOf d v (lookup i j) ≡ some code
+Answers d i j v code = abortCodeOf d v (lookup i j) ≡ some code
 
 abbrev pub invalidValue : ℕ
 invalidValue = 0x06090030
@@ -117,7 +117,7 @@ takeAll d [] (w ∷ ws) = false
 takeAll d (r ∷ rs) [] = not (isRw r) && takeAll d rs []
 takeAll d (r ∷ rs) (w ∷ ws) =
     cond (isRw r)
-    (eqb (key r) (w .0) && ltb (w .1) (256 ^ width r) && eqb (refusal d r (w .1)) 0 && takeAll d rs ws)
+    (eqb (key r) (w .0) && ltb (w .1) (256 ^ width r) && eqb (abortCode d r (w .1)) 0 && takeAll d rs ws)
     (takeAll d rs (w ∷ ws))
 
 abbrev pub writes : List (ℕ × ℕ)
@@ -165,12 +165,12 @@ abbrev pub isCode : ℕ → Option ℕ → Bool
 isCode code none = false
 isCode code (some c) = eqb c code
 
--- A write of each number to the entry that is found is refused with this abort code; 0: it is accepted.
+-- A write of each number to the entry that is found is aborted with this code; 0: it is accepted.
 abbrev pub answerEach : Device → Found → ℕ → List ℕ → Bool
 answerEach d x code [] = true
-answerEach d x code (v ∷ vs) = isCode code (refusalOf d v x) && answerEach d x code vs
+answerEach d x code (v ∷ vs) = isCode code (abortCodeOf d v x) && answerEach d x code vs
 
--- Each entry accepts the first numbers, and refuses the second with 0609 0030h.
+-- Each entry accepts the first numbers; a write of one of the second is aborted with 0609 0030h.
 abbrev pub endEach : Device → List (ℕ × ℕ × List ℕ × List ℕ) → Bool
 endEach d [] = true
 endEach d (e ∷ l) =
@@ -248,21 +248,25 @@ pub record Worked : Type 0 where
   -- the index of P4
   pub no-index : lookup 0x2102 0 ≡ NoIndex
   -- value before state: 6003h is below 6002h, and not written while missing
-  pub value-first : Answers fresh 0x6003 0 1048576 invalidValue × Answers fresh 0x6003 0 40 deviceState × Answers (at 100) 0x6003 0 1048575 0
+  pub value-first : Answers fresh 0x6003 0 1048576 invalidValue × Answers fresh 0x6003 0 40 deviceState
+      × Answers (at 100) 0x6003 0 1048575 0
   -- 6005h with scaling off
   pub step : Answers (at 100) 0x6005 1 5000 deviceState × Answers ready 0x6005 1 5000 0 × Answers ready 0x6005 1 4999 invalidValue
   -- only bits 2 and 3 may be set
   pub operating : Answers fresh 0x6000 0 12 0 × Answers fresh 0x6000 0 16 invalidValue
   -- with bit 31 clear also 181h..57Fh
-  pub band : Answers off 0x1800 1 0x180 invalidValue × Answers off 0x1800 1 0x181 0 × Answers off 0x1800 1 0x57F 0 × Answers off 0x1800 1 0x580 invalidValue
+  pub band : Answers off 0x1800 1 0x180 invalidValue × Answers off 0x1800 1 0x181 0
+      × Answers off 0x1800 1 0x57F 0 × Answers off 0x1800 1 0x580 invalidValue
   -- bits 30..11 zero
-  pub high-bits : Answers off 0x1800 1 0x80000000 0 × Answers off 0x1800 1 0x80000800 invalidValue × Answers off 0x1800 1 0xC0000181 invalidValue
+  pub high-bits : Answers off 0x1800 1 0x80000000 0 × Answers off 0x1800 1 0x80000800 invalidValue
+      × Answers off 0x1800 1 0xC0000181 invalidValue
   -- while a PDO is on, a write with bit 31 clear must repeat the held value
   pub held : Answers fresh 0x1800 1 0x181 0 × Answers fresh 0x1800 1 0x57F deviceState × Answers fresh 0x1800 1 0x80000181 0
   -- and sub 2 can't be written
   pub held-type : Answers fresh 0x1800 2 255 deviceState × Answers off 0x1800 2 255 0
   -- 1..240, 254, 255
-  pub types : Answers off 0x1800 2 0 invalidValue × Answers off 0x1800 2 240 0 × Answers off 0x1800 2 241 invalidValue × Answers off 0x1800 2 254 0
+  pub types : Answers off 0x1800 2 0 invalidValue × Answers off 0x1800 2 240 0
+      × Answers off 0x1800 2 241 invalidValue × Answers off 0x1800 2 254 0
   -- 80h+N; that, or that with bit 31
   pub emergency : Answers fresh 0x1014 0 0x81 0 × Answers fresh 0x1014 0 0x80000081 0 × Answers fresh 0x1014 0 0x82 invalidValue
   -- a wrong signature
@@ -270,7 +274,8 @@ pub record Worked : Type 0 where
   -- only 0 accepted, empties the list
   pub emptied : Answers (device true 100 3) 0x1003 0 1 invalidValue × Reads (written (device true 100 3) 0x1003_00 0) 0x1003 1 Blank
   -- 1003-1..4 beyond the count are blank
-  pub errors : Reads (device true 100 3) 0x1003 0 (Number 3) × Reads (device true 100 3) 0x1003 3 (Number 0x5000) × Reads (device true 100 3) 0x1003 4 Blank
+  pub errors : Reads (device true 100 3) 0x1003 0 (Number 3)
+      × Reads (device true 100 3) 0x1003 3 (Number 0x5000) × Reads (device true 100 3) 0x1003 4 Blank
   -- 1 while missing, else 0
   pub register : Reads fresh 0x1001 0 (Number 1) × Reads (at 100) 0x1001 0 (Number 0) × Reads fresh 0x6503 0 (Number 1)
   -- the value of entry 6000-0, plus bit 15 when Operational

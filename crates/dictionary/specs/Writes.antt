@@ -12,33 +12,34 @@ use Rattle.entries.specs.declared.Communication.{Communication}
 use Rattle.entries.specs.declared.Settings.{Settings}
 use Rattle.entries.specs.declared.Device.{Device}
 use Rattle.entries.specs.Settings.{factory}
-use Rattle.entries.specs.Table.{keyOf}
+use Rattle.entries.specs.Keys.{errorCountKey, saveKey, loadKey, emergencyKey, inhibitKey, heartbeatKey}
+use Rattle.entries.specs.Keys.{tpdo1, tpdo2, identifierKeyOf, typeKeyOf, eventKeyOf, operatingKey, rangeKey, presetKey, stepKey, cycleKey}
 
 abbrev pub pdoAfter : ℕ → Pdo → ℕ → ℕ → Pdo
 pdoAfter index p k v =
     record {
-      identifier = cond (eqb k (keyOf index 1)) v (p .identifier);
-      transmission = cond (eqb k (keyOf index 2)) v (p .transmission);
-      event = cond (eqb k (keyOf index 5)) v (p .event);
+      identifier = cond (eqb k (identifierKeyOf index)) v (p .identifier);
+      transmission = cond (eqb k (typeKeyOf index)) v (p .transmission);
+      event = cond (eqb k (eventKeyOf index)) v (p .event);
     }
 
 -- 6200-0: 1800-5 under a second index
 abbrev pub ownKey : ℕ → ℕ
-ownKey k = cond (eqb k 0x6200_00) 0x1800_05 k
+ownKey k = cond (eqb k cycleKey) (eventKeyOf tpdo1) k
 
 abbrev pub communicationAfter : Communication → ℕ → ℕ → Communication
 communicationAfter c k v =
     record {
-      emergency = cond (eqb k 0x1014_00) v (c .emergency);
-      inhibit = cond (eqb k 0x1015_00) v (c .inhibit);
-      heartbeat = cond (eqb k 0x1017_00) v (c .heartbeat);
-      pdo1 = pdoAfter 0x1800 (c .pdo1) (ownKey k) v;
-      pdo2 = pdoAfter 0x1801 (c .pdo2) k v;
+      emergency = cond (eqb k emergencyKey) v (c .emergency);
+      inhibit = cond (eqb k inhibitKey) v (c .inhibit);
+      heartbeat = cond (eqb k heartbeatKey) v (c .heartbeat);
+      pdo1 = pdoAfter tpdo1 (c .pdo1) (ownKey k) v;
+      pdo2 = pdoAfter tpdo2 (c .pdo2) k v;
     }
 
 -- Any accepted write of 6000h, 6002h or 6005h, also of an equal value, sets 6003h and the offset to 0;
 abbrev pub rescales : ℕ → Bool
-rescales k = eqb k 0x6000_00 || eqb k 0x6002_00 || eqb k 0x6005_01
+rescales k = eqb k operatingKey || eqb k rangeKey || eqb k stepKey
 
 -- of 6000h also T, to 1,000,000 with scaling and 1,048,576 without.
 abbrev pub rangeFor : ℕ → ℕ
@@ -52,20 +53,20 @@ rescaledTo operating range step = record { operating = operating; range = range;
 abbrev pub profileAfter : Profile → ℕ → ℕ → ℕ → Profile
 profileAfter p r k v =
     record {
-      operating = cond (eqb k 0x6000_00) v (p .operating);
-      range = cond (eqb k 0x6000_00) (rangeFor v) (cond (eqb k 0x6002_00) v (p .range));
-      preset = cond (rescales k) 0 (cond (eqb k 0x6003_00) v (p .preset));
-      step = cond (eqb k 0x6005_01) v (p .step);
-      offset = cond (rescales k) (pos 0) (cond (eqb k 0x6003_00) (presetTo p r v .offset) (p .offset));
+      operating = cond (eqb k operatingKey) v (p .operating);
+      range = cond (eqb k operatingKey) (rangeFor v) (cond (eqb k rangeKey) v (p .range));
+      preset = cond (rescales k) 0 (cond (eqb k presetKey) v (p .preset));
+      step = cond (eqb k stepKey) v (p .step);
+      offset = cond (rescales k) (pos 0) (cond (eqb k presetKey) (presetTo p r v .offset) (p .offset));
     }
 
--- What the code needs of a write that was not refused: 6003h is below 6002h.
+-- What the code needs of an accepted write: 6003h is below 6002h.
 abbrev pub Fits : Profile → ℕ → ℕ → Type 0
-Fits p k v = k ≡ 0x6003_00 → v < p .range
+Fits p k v = k ≡ presetKey → v < p .range
 
 -- "save" copies the settings to the saved set. "load" makes the saved set factory; running settings change at the next reset.
 abbrev pub savedAfter : Device → ℕ → Settings
-savedAfter d k = cond (eqb k 0x1010_01) (d .settings) (cond (eqb k 0x1011_01) (factory (d .node)) (d .saved))
+savedAfter d k = cond (eqb k saveKey) (d .settings) (cond (eqb k loadKey) (factory (d .node)) (d .saved))
 
 -- The device after v was written to the entry of key k.
 unfoldable pub written : Device → ℕ → ℕ → Device
@@ -74,7 +75,7 @@ written d k v =
       node = d .node;
       identity = d .identity;
       reading = d .reading;
-      errors = cond (eqb k 0x1003_00) 0 (d .errors);
+      errors = cond (eqb k errorCountKey) 0 (d .errors);
       settings = record {
         communication = communicationAfter (d .settings .communication) k v;
         profile = profileAfter (d .settings .profile) (d .reading .raw) k v;

@@ -1,5 +1,3 @@
-//! The object dictionary: what each entry reads, which values it takes, and what a write does.
+//! The object dictionary: what each entry reads, which values it takes, and what a write does. Types and laws, no functions.
 
-pub mod accept;
 pub mod read;
-pub mod write;

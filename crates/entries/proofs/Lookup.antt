@@ -28,21 +28,27 @@ run-from p k zero j m e = rw (le-ltb m 0 (omega arith))
 run-from p k (suc n) j zero e = rw (lt-ltb 0 (suc n) (omega arith), eq-eqb k j (omega arith), add-zero)
 run-from p k (suc n) j (suc m) e =
     let place : p + suc m ≡ suc p + m = omega arith in
-    rw (ne-eqb k j (λ f. omega arith), leb·suc-suc (suc m) n, place, ← run-from (suc p) (suc k) n j m (omega arith)) (sym (found-stays (ltb m n) (suc p + m)))
+    rw (
+      ne-eqb k j (λ f. omega arith),
+      leb·suc-suc (suc m) n,
+      place,
+      ← run-from (suc p) (suc k) n j m (omega arith),
+    ) (sym (found-stays (ltb m n) (suc p + m)))
 
-pub among : (p n j : ℕ) → cond (ltb j n) (At (p + j)) NoSubIndex ≡ run p 0 n j
-among p n j = run-from p 0 n j j (omega arith)
+pub by-sub-index : (p n j : ℕ) → cond (ltb j n) (At (p + j)) NoSubIndex ≡ run p 0 n j
+by-sub-index p n j = run-from p 0 n j j (omega arith)
 
 -- the same of four rows, with the sub-indices 0, 1, 2 and 5
 abbrev pdo-run : ℕ → ℕ → Found
 pdo-run p j =
-    cond (eqb 0 j) (At p) (noSub (cond (eqb 1 j) (At (suc p)) (noSub (cond (eqb 2 j) (At (suc (suc p))) (noSub (cond (eqb 5 j) (At (p + 3)) NoSubIndex))))))
+    cond (eqb 0 j) (At p)
+    (noSub (cond (eqb 1 j) (At (suc p)) (noSub (cond (eqb 2 j) (At (suc (suc p))) (noSub (cond (eqb 5 j) (At (p + 3)) NoSubIndex))))))
 
-pub among-pdo : (p j : ℕ) → cond (eqb j 5) (At (p + 3)) (cond (ltb j 3) (At (p + j)) NoSubIndex) ≡ pdo-run p j
-among-pdo p j =
+pub pdo-by-sub-index : (p j : ℕ) → cond (eqb j 5) (At (p + 3)) (cond (ltb j 3) (At (p + j)) NoSubIndex) ≡ pdo-run p j
+pdo-by-sub-index p j =
     test (eqb j 5)
     (λ e. let five = eqb-true j 5 e in rw five)
-    (λ e. let other = ne-eqb 5 j (λ f. eqb-false j 5 e (sym f)) in rw (e, other) (among p 3 j))
+    (λ e. let other = ne-eqb 5 j (λ f. eqb-false j 5 e (sym f)) in rw (e, other) (by-sub-index p 3 j))
 
 abbrev listed : List ℕ → ℕ → Bool
 listed [] a = false

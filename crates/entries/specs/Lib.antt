@@ -1,3 +1,4 @@
 pub mod Settings
 pub mod Table
+pub mod Keys
 pub mod Laws

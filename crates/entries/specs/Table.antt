@@ -11,7 +11,8 @@ use Rattle.entries.specs.declared.Communication.{Communication}
 use Rattle.entries.specs.declared.Device.{Device}
 use Rattle.entries.specs.declared.table.Row.{Row}
 use Rattle.entries.specs.declared.table.Accepted.{Accepted}
-use Rattle.entries.specs.declared.table.Accepted.the-variants.{Nothing, All, Only, Signature, Between, EmergencyIdentifier, PdoIdentifier, TransmissionType, OperatingParameters, BelowRange}
+use Rattle.entries.specs.declared.table.Accepted.the-variants.{Nothing, All, Only, Signature, Between, EmergencyIdentifier}
+use Rattle.entries.specs.declared.table.Accepted.the-variants.{PdoIdentifier, TransmissionType, OperatingParameters, BelowRange}
 use Rattle.entries.specs.declared.table.Found.{Found}
 use Rattle.entries.specs.declared.table.Found.the-variants.{At, NoSubIndex, NoIndex}
 
@@ -34,7 +35,8 @@ ro = false
 abbrev rw : Bool
 rw = true
 
--- An entry: its row (index, sub-index, type, access, accepted values), when it is blank, and what it reads otherwise, of a device that is Operational or not.
+-- An entry: its row (index, sub-index, type, access, accepted values), when it is blank, and what it reads otherwise, of a device
+-- that is Operational or not.
 pub record Entry : Type 0 where
   pub row : Row
   pub blank : Device → Bool

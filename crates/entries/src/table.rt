@@ -79,37 +79,37 @@ pub fn find(index: u16, sub: u8) -> Found
     ensures { λ r. ⌜ r ≡ lookup index sub ⌝ }
 {
     match index {
-        0x1000 => among(0, 1, sub),
-        0x1001 => among(1, 1, sub),
-        0x1003 => among(2, 5, sub),
-        0x1005 => among(7, 1, sub),
-        0x1010 => among(8, 2, sub),
-        0x1011 => among(10, 2, sub),
-        0x1014 => among(12, 1, sub),
-        0x1015 => among(13, 1, sub),
-        0x1017 => among(14, 1, sub),
-        0x1018 => among(15, 5, sub),
-        0x1800 => among_pdo(20, sub),
-        0x1801 => among_pdo(24, sub),
-        0x1A00 => among(28, 2, sub),
-        0x1A01 => among(30, 2, sub),
-        0x6000 => among(32, 1, sub),
-        0x6002 => among(33, 1, sub),
-        0x6003 => among(34, 1, sub),
-        0x6004 => among(35, 1, sub),
-        0x6005 => among(36, 2, sub),
-        0x6200 => among(38, 1, sub),
-        0x6500 => among(39, 1, sub),
-        0x6501 => among(40, 1, sub),
-        0x6503 => among(41, 1, sub),
-        0x6504 => among(42, 1, sub),
-        0x6509 => among(43, 1, sub),
+        0x1000 => by_sub_index(0, 1, sub),
+        0x1001 => by_sub_index(1, 1, sub),
+        0x1003 => by_sub_index(2, 5, sub),
+        0x1005 => by_sub_index(7, 1, sub),
+        0x1010 => by_sub_index(8, 2, sub),
+        0x1011 => by_sub_index(10, 2, sub),
+        0x1014 => by_sub_index(12, 1, sub),
+        0x1015 => by_sub_index(13, 1, sub),
+        0x1017 => by_sub_index(14, 1, sub),
+        0x1018 => by_sub_index(15, 5, sub),
+        0x1800 => pdo_by_sub_index(20, sub),
+        0x1801 => pdo_by_sub_index(24, sub),
+        0x1A00 => by_sub_index(28, 2, sub),
+        0x1A01 => by_sub_index(30, 2, sub),
+        0x6000 => by_sub_index(32, 1, sub),
+        0x6002 => by_sub_index(33, 1, sub),
+        0x6003 => by_sub_index(34, 1, sub),
+        0x6004 => by_sub_index(35, 1, sub),
+        0x6005 => by_sub_index(36, 2, sub),
+        0x6200 => by_sub_index(38, 1, sub),
+        0x6500 => by_sub_index(39, 1, sub),
+        0x6501 => by_sub_index(40, 1, sub),
+        0x6503 => by_sub_index(41, 1, sub),
+        0x6504 => by_sub_index(42, 1, sub),
+        0x6509 => by_sub_index(43, 1, sub),
         _ => Found::NoIndex,
     }
 }
 
 // Of an index with the sub-indices below `count`, the first of which stands at `first`.
-fn among(first: u8, count: u8, sub: u8) -> Found
+fn by_sub_index(first: u8, count: u8, sub: u8) -> Found
     ensures { λ r. ⌜ r ≡ cond (ltb sub count) (At (first + sub)) NoSubIndex ⌝ }
 {
     if sub < count {
@@ -119,13 +119,13 @@ fn among(first: u8, count: u8, sub: u8) -> Found
 }
 
 // Of an index with the sub-indices 0, 1, 2 and 5.
-fn among_pdo(first: u8, sub: u8) -> Found
+fn pdo_by_sub_index(first: u8, sub: u8) -> Found
     ensures { λ r. ⌜ r ≡ cond (eqb sub 5) (At (first + 3)) (cond (ltb sub 3) (At (first + sub)) NoSubIndex) ⌝ }
 {
     if sub == 5 {
         return Found::At(first as usize + 3);
     }
-    among(first, 3, sub)
+    by_sub_index(first, 3, sub)
 }
 
 // The table; here 1000h to 1018h.

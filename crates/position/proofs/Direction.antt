@@ -45,7 +45,8 @@ directed-turned : (p : Profile) (r : ℕ) → 0 < p .range → directed (turned 
 directed-turned p r h =
     rw (direction-turned p, scaling-turned p) (swapped (bit directionBit (p .operating)) (count p r) (p .range) (mod-lt _ h))
 
-other-end : (p : Profile) (r : ℕ) → bit scalingBit (p .operating) ≡ false → r < p .range → directed (turned p) r ≡ directed p (p .range - 1 - r)
+other-end : (p : Profile) (r : ℕ) → bit scalingBit (p .operating) ≡ false → r < p .range
+    → directed (turned p) r ≡ directed p (p .range - 1 - r)
 other-end p r e l =
     let t = p .range in
     let m : r % t ≡ r = mod-eq-of-lt l in

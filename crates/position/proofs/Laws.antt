@@ -20,7 +20,8 @@ rounded-down n t h =
     let l : n % t < t = mod-lt n h in
     (omega arith, omega arith)
 
-scaled : (p : Profile) (r : ℕ) → 0 < p .step → bit scalingBit (p .operating) ≡ true → (scaledCount p r * p .step ≤ r * 5000) × (r * 5000 < (scaledCount p r + 1) * p .step)
+scaled : (p : Profile) (r : ℕ) → 0 < p .step → bit scalingBit (p .operating) ≡ true
+    → (scaledCount p r * p .step ≤ r * 5000) × (r * 5000 < (scaledCount p r + 1) * p .step)
 scaled p r h e = rw e (rounded-down (r * 5000) (p .step) h)
 
 inverted : (p : Profile) (r : ℕ) → 0 < p .range → bit directionBit (p .operating) ≡ true → directed p r + count p r + 1 ≡ p .range

@@ -1,18 +1,23 @@
 -- What the profile part of the settings can be.
 -- 01, chapter "Entries", rows 6000h to 6005h, and the ranges that chapter "Position" gives T and the offset.
-use Prim.Native.Nat.{ℕ, _%_, _≤_, _<_}
+use Prim.Native.Nat.{ℕ, suc, _%_, _≤_, _<_}
 use lib.IntN.{natAbs}
 use mathlib.Core.Path.{_≡_}
 use mathlib.Core.Bool.{true, false}
 use Rattle.position.specs.declared.Profile.{Profile}
 use Rattle.position.specs.Position.{bit, scalingBit}
 
--- Any accepted write of 6000h sets T, to 1,000,000 with scaling and 1,048,576 without.
+-- The highest raw position: a sample above it is refused with 3.
+abbrev pub highestRaw : ℕ
+highestRaw = 1048575
+
+-- Any accepted write of 6000h sets T, to 1,000,000 with scaling
 abbrev pub scaledRange : ℕ
 scaledRange = 1000000
 
+-- and 1,048,576 without: as many as there are raw positions.
 abbrev pub fullRange : ℕ
-fullRange = 1048576
+fullRange = suc highestRaw
 
 pub record ValidProfile (p : Profile) : Type 0 where
   -- 6000h: only bits 2 and 3 may be set

@@ -16,9 +16,11 @@ use Rattle.entries.specs.Table.{table, noRow, keyOf, lookup}
 use Rattle.dictionary.specs.declared.read.Shown.{Shown}
 use Rattle.dictionary.specs.declared.read.Shown.the-variants.{Blank, Number}
 use Rattle.dictionary.specs.Reads.{shownAt}
-use Rattle.dictionary.specs.Accepted.{acceptsIn, isSignature, barred, refusal}
-use Rattle.sdo.specs.Request.{byte, indexOf, subOf, dataOf, aborting, reading, writing, taken}
-use Rattle.sdo.specs.Reply.{nothing, confirmed, refused, shownReply}
+use Rattle.dictionary.specs.Accepted.{acceptsIn, isSignature, barred, abortCode}
+use Rattle.dictionary.specs.AbortCodes.{invalidValue, wrongSignature, deviceState}
+use Rattle.sdo.specs.AbortCodes.{readOnly, tooLong, tooShort, noData}
+use Rattle.sdo.specs.Request.{byte, indexOf, subOf, dataOf, aborting, reading, writing, takenApart}
+use Rattle.sdo.specs.Reply.{noReply, confirmed, aborted, shownReply}
 use Rattle.sdo.specs.Service.{value, confirmation, abort, answer, isBlank, numberIn, lengthOf, cutTo, dueOf, due}
 use Rattle.sdo.specs.Steps.{lengthCode, writeCode, replyTo}
 
@@ -26,20 +28,20 @@ use Rattle.sdo.specs.Steps.{lengthCode, writeCode, replyTo}
 abbrev code : Bool → Bool → Bool → Bool → Bool → Bool → ℕ
 code rw long short accepted sign bar =
     cond rw
-    (cond (eqb (cond long 0x06070012 (cond short 0x06070013 0)) 0)
-    (cond (not accepted) (cond sign 0x08000020 0x06090030) (cond bar 0x08000022 0))
-    (cond long 0x06070012 (cond short 0x06070013 0)))
-    0x06010002
+    (cond (eqb (cond long tooLong (cond short tooShort 0)) 0)
+    (cond (not accepted) (cond sign wrongSignature invalidValue) (cond bar deviceState 0))
+    (cond long tooLong (cond short tooShort 0)))
+    readOnly
 
 write-due : (f : List ℕ) (k v : ℕ) (rw long short accepted sign bar : Bool) →
-    cond (eqb (code rw long short accepted sign bar) 0) (confirmed f k v) (refused f (code rw long short accepted sign bar))
+    cond (eqb (code rw long short accepted sign bar) 0) (confirmed f k v) (aborted f (code rw long short accepted sign bar))
     ≡ answer f
-    (cond (not rw) (abort 0x06010002)
-    (cond long (abort 0x06070012)
-    (cond short (abort 0x06070013)
-    (cond (not accepted && sign) (abort 0x08000020)
-    (cond (not accepted) (abort 0x06090030)
-    (cond bar (abort 0x08000022)
+    (cond (not rw) (abort readOnly)
+    (cond long (abort tooLong)
+    (cond short (abort tooShort)
+    (cond (not accepted && sign) (abort wrongSignature)
+    (cond (not accepted) (abort invalidValue)
+    (cond bar (abort deviceState)
     (confirmation k v)))))))
 write-due f k v false long short accepted sign bar = refl
 write-due f k v true true short accepted sign bar = refl
@@ -51,18 +53,18 @@ write-due f k v true false false true sign false = refl
 
 -- a length of 0 is the entry's
 length-is : (t : Bool) (b w : ℕ) →
-    lengthCode (cond t (4 - b % 4) 0) w ≡ cond (ltb w (cond t (4 - b % 4) w)) 0x06070012 (cond (ltb (cond t (4 - b % 4) w) w) 0x06070013 0)
+    lengthCode (cond t (4 - b % 4) 0) w ≡ cond (ltb w (cond t (4 - b % 4) w)) tooLong (cond (ltb (cond t (4 - b % 4) w) w) tooShort 0)
 length-is true b w =
     let l : b % 4 < 4 = mod-lt b (omega arith) in
     rw (ne-eqb (4 - b % 4) 0 (λ e. omega arith))
 length-is false b w = rw (le-ltb w w (omega arith))
 
-read-due : (f : List ℕ) (w : ℕ) (x : Shown) → shownReply f w x ≡ answer f (cond (isBlank x) (abort 0x08000024) (value w (numberIn x)))
+read-due : (f : List ℕ) (w : ℕ) (x : Shown) → shownReply f w x ≡ answer f (cond (isBlank x) (abort noData) (value w (numberIn x)))
 read-due f w Blank = refl
 read-due f w (Number n) = refl
 
 -- the client's abort
-pub none-due : (d : Device) (o : Bool) (f : List ℕ) → aborting f ≡ true → nothing ≡ answer f (due d o f)
+pub none-due : (d : Device) (o : Bool) (f : List ℕ) → aborting f ≡ true → noReply ≡ answer f (due d o f)
 unfolding due
 none-due d o f e = rw e
 
@@ -71,8 +73,9 @@ not-both : (t : ℕ) (b : Bool) → eqb t 2 ≡ true → (eqb t 1 && b) ≡ fals
 not-both t b e = rw (eqb-true t 2 e)
 
 module _ (d : Device) (o : Bool) (f : List ℕ) (n : aborting f ≡ false) where
-  by-found : (x : Found) (r w : Bool) → reading f ≡ r → writing f ≡ w → lookup (indexOf f) (subOf f) ≡ x → replyTo d o f (taken f) ≡ answer f (dueOf d o f x)
-  unfolding writeCode refusal
+  by-found : (x : Found) (r w : Bool) → reading f ≡ r → writing f ≡ w → lookup (indexOf f) (subOf f) ≡ x
+      → replyTo d o f (takenApart f) ≡ answer f (dueOf d o f x)
+  unfolding writeCode abortCode
   by-found x true true a b q = true-false (sym b ∙ not-both (byte f 0 / 32) _ a)
   by-found NoIndex true false a b q = rw (n, a, q)
   by-found NoSubIndex true false a b q = rw (n, a, q)
@@ -83,9 +86,10 @@ module _ (d : Device) (o : Bool) (f : List ℕ) (n : aborting f ≡ false) where
       let r = getD table p noRow in
       let v = cutTo (r .2) (dataOf f) in
       rw (n, a, b, q, length-is (eqb (byte f 0 % 2) 1) (byte f 0 / 4) (r .2))
-      (write-due f (keyOf (r .0) (r .1)) v (r .3) (ltb (r .2) (lengthOf f (r .2))) (ltb (lengthOf f (r .2)) (r .2)) (acceptsIn d r v) (isSignature (r .4)) (barred d (keyOf (r .0) (r .1)) v))
+      (write-due f (keyOf (r .0) (r .1)) v (r .3) (ltb (r .2) (lengthOf f (r .2))) (ltb (lengthOf f (r .2)) (r .2))
+      (acceptsIn d r v) (isSignature (r .4)) (barred d (keyOf (r .0) (r .1)) v))
   by-found x false false a b q = rw (n, a, b)
 
-  pub reply-due : replyTo d o f (taken f) ≡ answer f (due d o f)
+  pub reply-due : replyTo d o f (takenApart f) ≡ answer f (due d o f)
   unfolding due
   reply-due = by-found (lookup (indexOf f) (subOf f)) _ _ refl refl refl

@@ -50,7 +50,8 @@ module _ (d : Device) (o : Bool) (f : List ℕ) where
   replied-of x =
       by (λ y. replies (answer f y .effect) ≡ not (aborting f)) (aborting f)
       (λ e. rw e)
-      (λ e. rw e (first-each (λ y. replies (answer f y .effect) ≡ true) (steps d o f x) _ (refl ▸ refl ▸ refl ▸ refl ▸ refl ▸ refl ▸ refl ▸ refl ▸ refl ▸ refl ▸ refl ▸ end) refl))
+      (λ e. rw e (first-each (λ y. replies (answer f y .effect) ≡ true) (steps d o f x) _
+      (refl ▸ refl ▸ refl ▸ refl ▸ refl ▸ refl ▸ refl ▸ refl ▸ refl ▸ refl ▸ refl ▸ end) refl))
 
   replied : replies (answer f (due d o f) .effect) ≡ not (aborting f)
   unfolding due
@@ -109,7 +110,8 @@ module _ (d : Device) (o : Bool) (f : List ℕ) where
   abbrev asked : Found
   asked = lookup (indexOf f) (subOf f)
 
-  repeated : aborting f ≡ false → let r = answer f (due d o f) .bytes in (byte r 1 ≡ byte f 1) × (byte r 2 ≡ byte f 2) × (byte r 3 ≡ byte f 3)
+  repeated : aborting f ≡ false
+      → let r = answer f (due d o f) .bytes in (byte r 1 ≡ byte f 1) × (byte r 2 ≡ byte f 2) × (byte r 3 ≡ byte f 3)
   repeated e = replied-by d o f (due d o f) (replied d o f ∙ rw e)
 
   unused : ValidDevice d → (w n : ℕ) → due d o f ≡ value w n
@@ -118,7 +120,8 @@ module _ (d : Device) (o : Bool) (f : List ℕ) where
       let t = rw e at (told d o f) in
       rw e (ap (λ (l : List ℕ). command w ∷ byte f 1 ∷ byte f 2 ∷ byte f 3 ∷ l) (unused-by d o f asked w n t h))
 
-  unused-confirming : (k v : ℕ) → due d o f ≡ confirmation k v → answer f (due d o f) .bytes ≡ 0x60 ∷ byte f 1 ∷ byte f 2 ∷ byte f 3 ∷ replicate 4 0
+  unused-confirming : (k v : ℕ) → due d o f ≡ confirmation k v
+      → answer f (due d o f) .bytes ≡ 0x60 ∷ byte f 1 ∷ byte f 2 ∷ byte f 3 ∷ replicate 4 0
   unused-confirming k v e = rw e
 
   values : (p n : ℕ) → reading f ≡ true → asked ≡ At p → shownAt d o p ≡ Number n → due d o f ≡ value (rowAt p .2) n
@@ -129,7 +132,7 @@ module _ (d : Device) (o : Bool) (f : List ℕ) where
       → Takes d p (cutTo (rowAt p .2) (dataOf f)) → due d o f ≡ confirmation (key (rowAt p)) (cutTo (rowAt p .2) (dataOf f))
   unfolding due
   confirms p e q l t =
-      let free = taken d (rowAt p) (cutTo (rowAt p .2) (dataOf f)) (t .unrefused) in
+      let free = taken d (rowAt p) (cutTo (rowAt p .2) (dataOf f)) (t .unaborted) in
       rw (q, is-write f e .0, is-write f e .1, e, free .0, free .1, t .writable, l, le-ltb (rowAt p .2) (rowAt p .2) (omega arith))
 
   reserved : (g : List ℕ) → Alike f g → due d o f ≡ due d o g

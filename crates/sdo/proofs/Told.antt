@@ -18,13 +18,13 @@ use Rattle.entries.proofs.Length.{rows-are}
 use Rattle.dictionary.specs.declared.read.Shown.{Shown}
 use Rattle.dictionary.specs.declared.read.Shown.the-variants.{Blank, Number}
 use Rattle.dictionary.specs.Reads.{shownAt}
-use Rattle.dictionary.specs.Accepted.{acceptsIn, isSignature, barred, refusal}
+use Rattle.dictionary.specs.Accepted.{acceptsIn, isSignature, barred, abortCode}
 use Rattle.sdo.specs.Request.{indexOf, subOf, dataOf, aborting, reading, writing}
 use Rattle.sdo.specs.Service.{isBlank, numberIn, lengthOf, cutTo, dueOf, due}
 use Rattle.sdo.specs.Laws.{Told}
 use Rattle.sdo.proofs.Place.{Within, within}
 
--- a request that is neither refused as unknown nor a read is a write
+-- a request that is neither aborted as unknown nor a read is a write
 write : (r w : Bool) → (not r && not w) ≡ false → r ≡ false → w ≡ true
 write true w e d = true-false d
 write false true e d = refl
@@ -75,16 +75,17 @@ cut-fits w v false true c e f g h = rw (eqb-true w 2 f) (mod-lt v (omega arith))
 cut-fits w v false false true e f g h = rw (eqb-true w 4 g) (mod-lt v (omega arith))
 cut-fits w v false false false e f g h = true-false (sym h)
 
-unrefused : (d : Device) (r : Row) (v : ℕ) → acceptsIn d r v ≡ true → barred d (keyOf (r .0) (r .1)) v ≡ false → refusal d r v ≡ 0
-unfolding refusal
-unrefused d r v a b = rw (a, b)
+unaborted : (d : Device) (r : Row) (v : ℕ) → acceptsIn d r v ≡ true → barred d (keyOf (r .0) (r .1)) v ≡ false → abortCode d r v ≡ 0
+unfolding abortCode
+unaborted d r v a b = rw (a, b)
 
 module _ (d : Device) (o : Bool) (f : List ℕ) where
   told-at : (x : Found) → Within x → Told d o f x (dueOf d o f x)
   told-at NoIndex h =
       by (Told d o f NoIndex) (aborting f) (λ _. tt) (λ _. by (Told d o f NoIndex) (not (reading f) && not (writing f)) (λ _. tt) (λ _. tt))
   told-at NoSubIndex h =
-      by (Told d o f NoSubIndex) (aborting f) (λ _. tt) (λ _. by (Told d o f NoSubIndex) (not (reading f) && not (writing f)) (λ _. tt) (λ _. tt))
+      by (Told d o f NoSubIndex) (aborting f) (λ _. tt)
+      (λ _. by (Told d o f NoSubIndex) (not (reading f) && not (writing f)) (λ _. tt) (λ _. tt))
   told-at (At p) h =
       let P = Told d o f (At p) in
       let r = getD table p noRow in
@@ -102,7 +103,14 @@ module _ (d : Device) (o : Bool) (f : List ℕ) where
       by P (writing f && barred d k v) (λ _. tt) (λ free.
       by P (reading f && isBlank s) (λ _. tt) (λ full.
       by P (reading f)
-      (λ read. record { asks = read; place = p; stands = h; found = refl; its-width = refl; shown = is-number s (fails (reading f) (isBlank s) read full) })
+      (λ read. record {
+        asks = read;
+        place = p;
+        stands = h;
+        found = refl;
+        its-width = refl;
+        shown = is-number s (fails (reading f) (isBlank s) read full);
+      })
       (λ no.
       let w = write (reading f) (writing f) either no in
       record {
@@ -116,7 +124,7 @@ module _ (d : Device) (o : Bool) (f : List ℕ) where
           stands = h;
           writable = holds (writing f) (r .3) w rw;
           long = cut-fits (r .2) (dataOf f) _ _ _ refl refl refl (type-at p h);
-          unrefused = unrefused d r v (holds (writing f) a w accepted) (fails (writing f) (barred d k v) w free);
+          unaborted = unaborted d r v (holds (writing f) a w accepted) (fails (writing f) (barred d k v) w free);
         };
       }))))))))))
 

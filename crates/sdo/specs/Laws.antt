@@ -1,4 +1,5 @@
--- What holds of every request to every device: what a value and a confirmation tell, what a reply leaves out, and what a request leaves as it was.
+-- What holds of every request to every device: what a value and a confirmation tell, what a reply leaves out, and what a request
+-- leaves as it was.
 use Prim.Native.Nat.{ℕ, _-_, _/_, _%_, _<_}
 use lib.ListN.{length, replicate}
 use mathlib.Core.Path.{_≡_}
@@ -43,7 +44,8 @@ Told d o f x (value w n) = Valued d o f x w n
 Told d o f x (confirmation k v) = Confirmed d f x k v
 Told d o f x (abort code) = Unit {0}
 
--- What counts of a request: the top three bits, the index and the sub-index; of a write also bits 1 and 0, bits 3..2 where bit 0 is set, and the data.
+-- What counts of a request: the top three bits, the index and the sub-index; of a write also bits 1 and 0, bits 3..2 where bit 0
+-- is set, and the data.
 pub record Alike (f g : List ℕ) : Type 0 where
   pub tops : top f ≡ top g
   pub indices : indexOf f ≡ indexOf g
@@ -59,7 +61,8 @@ served d o f = answer f (due d o f)
 pub record Laws (d : Device) (o : Bool) (f : List ℕ) : Type 0 where
   pub told : Told d o f (lookup (indexOf f) (subOf f)) (due d o f)
   -- and so the other way: a read of an entry that is not blank gets its value,
-  pub values : (p n : ℕ) → reading f ≡ true → lookup (indexOf f) (subOf f) ≡ At p → shownAt d o p ≡ Number n → due d o f ≡ value (width (rowAt p)) n
+  pub values : (p n : ℕ) → reading f ≡ true → lookup (indexOf f) (subOf f) ≡ At p → shownAt d o p ≡ Number n
+      → due d o f ≡ value (width (rowAt p)) n
   -- a write that the entry takes is confirmed
   pub confirms : (p : ℕ) → writing f ≡ true → lookup (indexOf f) (subOf f) ≡ At p → lengthOf f (width (rowAt p)) ≡ width (rowAt p)
       → let v = cutTo (width (rowAt p)) (dataOf f) in Takes d p v → due d o f ≡ confirmation (key (rowAt p)) v
@@ -68,7 +71,8 @@ pub record Laws (d : Device) (o : Bool) (f : List ℕ) : Type 0 where
   -- bytes 1..3 of the request repeated
   pub repeated : aborting f ≡ false → let r = served d o f .bytes in (byte r 1 ≡ byte f 1) × (byte r 2 ≡ byte f 2) × (byte r 3 ≡ byte f 3)
   -- unused bytes 0: of a value, and of a confirmation
-  pub unused-confirming : (k v : ℕ) → due d o f ≡ confirmation k v → served d o f .bytes ≡ 0x60 ∷ byte f 1 ∷ byte f 2 ∷ byte f 3 ∷ replicate 4 0
+  pub unused-confirming : (k v : ℕ) → due d o f ≡ confirmation k v
+      → served d o f .bytes ≡ 0x60 ∷ byte f 1 ∷ byte f 2 ∷ byte f 3 ∷ replicate 4 0
   pub unused : ValidDevice d → (w n : ℕ) → due d o f ≡ value w n
       → served d o f .bytes ≡ command w ∷ byte f 1 ∷ byte f 2 ∷ byte f 3 ∷ lowFirst w n ++ replicate (4 - w) 0
   -- abort 80h with the code, low byte first

@@ -1,4 +1,5 @@
 pub mod Request
+pub mod AbortCodes
 pub mod Reply
 pub mod Service
 pub mod Steps

@@ -8,6 +8,7 @@ use Rattle.entries.specs.declared.Device.{Device}
 use Rattle.dictionary.specs.declared.read.Shown.{Shown}
 use Rattle.dictionary.specs.declared.read.Shown.the-variants.{Blank, Number}
 use Rattle.dictionary.specs.Writes.{written}
+use Rattle.sdo.specs.AbortCodes.{noData}
 use Rattle.sdo.specs.declared.reply.Effect.{Effect}
 use Rattle.sdo.specs.declared.reply.Effect.the-variants.{Nothing, Reply, Write}
 use Rattle.sdo.specs.declared.reply.Served.{Served}
@@ -40,14 +41,14 @@ abbrev pub confirmed : List ℕ → ℕ → ℕ → Served
 confirmed f k v = record { bytes = framed 0x60 f 0; effect = Write k v }
 
 -- abort 80h with the code, low byte first.
-abbrev pub refused : List ℕ → ℕ → Served
-refused f code = record { bytes = framed 0x80 f code; effect = Reply }
+abbrev pub aborted : List ℕ → ℕ → Served
+aborted f code = record { bytes = framed 0x80 f code; effect = Reply }
 
 -- The client's abort: no effect, no reply.
-abbrev pub nothing : Served
-nothing = record { bytes = 0 ∷ 0 ∷ 0 ∷ 0 ∷ 0 ∷ 0 ∷ 0 ∷ 0 ∷ []; effect = Nothing }
+abbrev pub noReply : Served
+noReply = record { bytes = 0 ∷ 0 ∷ 0 ∷ 0 ∷ 0 ∷ 0 ∷ 0 ∷ 0 ∷ []; effect = Nothing }
 
 -- A read of a blank: 0800 0024h
 abbrev pub shownReply : List ℕ → ℕ → Shown → Served
-shownReply f width Blank = refused f 0x08000024
+shownReply f width Blank = aborted f noData
 shownReply f width (Number n) = answered f width n

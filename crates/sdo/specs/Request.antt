@@ -1,4 +1,4 @@
--- A request taken apart is a read, a write, or a reason to abort: 01's chapter "Service requests". A request is its eight bytes, f.
+-- A request taken apart is a read, a write, or an unknown command: 01's chapter "Service requests". A request is its eight bytes, f.
 use Prim.Native.Nat.{ℕ, _-_, _/_, _%_}
 use lib.Dec.{eqb}
 use lib.ListN.{getD}
@@ -8,7 +8,7 @@ use Rattle.can.specs.Number.{number}
 use Rattle.sdo.specs.declared.request.Access.{Access}
 use Rattle.sdo.specs.declared.request.Access.the-variants.{Read, Write}
 use Rattle.sdo.specs.declared.request.Request.{Request}
-use Rattle.sdo.specs.declared.request.Request.the-variants.{Asked, Reason}
+use Rattle.sdo.specs.declared.request.Request.the-variants.{Asked, UnknownCommand}
 
 abbrev pub byte : List ℕ → ℕ → ℕ
 byte f k = getD f k 0
@@ -49,8 +49,8 @@ saidLength b = cond (eqb (b % 2) 1) (4 - b / 4 % 4) 0
 abbrev asking : List ℕ → Access → Request
 asking f a = Asked (record { index = indexOf f; sub = subOf f; access = a })
 
-abbrev pub taken : List ℕ → Request
-taken f =
+abbrev pub takenApart : List ℕ → Request
+takenApart f =
     cond (reading f) (asking f Read)
     (cond (writing f) (asking f (Write (saidLength (byte f 0)) (dataOf f)))
-    Reason)
+    UnknownCommand)

@@ -13,9 +13,11 @@ use Rattle.dictionary.specs.declared.read.Shown.{Shown}
 use Rattle.dictionary.specs.declared.read.Shown.the-variants.{Blank, Number}
 use Rattle.dictionary.specs.Reads.{shownAt}
 use Rattle.dictionary.specs.Accepted.{acceptsIn, isSignature, barred}
+use Rattle.dictionary.specs.AbortCodes.{invalidValue, wrongSignature, deviceState}
+use Rattle.sdo.specs.AbortCodes.{unknownCommand, noSuchIndex, noSuchSubIndex, readOnly, tooLong, tooShort, noData}
 use Rattle.sdo.specs.declared.reply.Served.{Served}
 use Rattle.sdo.specs.Request.{byte, indexOf, subOf, dataOf, aborting, reading, writing}
-use Rattle.sdo.specs.Reply.{nothing, answered, confirmed, refused}
+use Rattle.sdo.specs.Reply.{noReply, answered, confirmed, aborted}
 
 -- What is due: nothing, the value of an entry of so many bytes, the confirmation that an entry got a value, or an abort code.
 pub data Due : Type 0 where
@@ -26,10 +28,10 @@ pub data Due : Type 0 where
 
 -- The reply that joins, and what the request does.
 abbrev pub answer : List ℕ → Due → Served
-answer f none = nothing
+answer f none = noReply
 answer f (value width n) = answered f width n
 answer f (confirmation k v) = confirmed f k v
-answer f (abort code) = refused f code
+answer f (abort code) = aborted f code
 
 abbrev pub noIndex : Found → Bool
 noIndex NoIndex = true
@@ -73,22 +75,22 @@ steps d o f x =
     let r = rowOf x in
     let v = cutTo (width r) (dataOf f) in
     -- 1. other top bits, or a write with bit 1 clear
-    (not (reading f) && not (writing f), abort 0x05040001) ∷
+    (not (reading f) && not (writing f), abort unknownCommand) ∷
     -- 2. no such index; no such sub-index
-    (noIndex x, abort 0x06020000) ∷
-    (noSubIndex x, abort 0x06090011) ∷
+    (noIndex x, abort noSuchIndex) ∷
+    (noSubIndex x, abort noSuchSubIndex) ∷
     -- 3. write to ro
-    (writing f && not (isRw r), abort 0x06010002) ∷
+    (writing f && not (isRw r), abort readOnly) ∷
     -- 4. length: longer, shorter
-    (writing f && ltb (width r) (lengthOf f (width r)), abort 0x06070012) ∷
-    (writing f && ltb (lengthOf f (width r)) (width r), abort 0x06070013) ∷
+    (writing f && ltb (width r) (lengthOf f (width r)), abort tooLong) ∷
+    (writing f && ltb (lengthOf f (width r)) (width r), abort tooShort) ∷
     -- 5. value; for 1010-1, 1011-1 a wrong signature 0800 0020h
-    (writing f && not (acceptsIn d r v) && isSignature (accepted r), abort 0x08000020) ∷
-    (writing f && not (acceptsIn d r v), abort 0x06090030) ∷
+    (writing f && not (acceptsIn d r v) && isSignature (accepted r), abort wrongSignature) ∷
+    (writing f && not (acceptsIn d r v), abort invalidValue) ∷
     -- 6. writes only: the state
-    (writing f && barred d (key r) v, abort 0x08000022) ∷
+    (writing f && barred d (key r) v, abort deviceState) ∷
     -- 7. read of a blank
-    (reading f && isBlank (shownOf d o x), abort 0x08000024) ∷
+    (reading f && isBlank (shownOf d o x), abort noData) ∷
     (reading f, value (width r) (numberIn (shownOf d o x))) ∷
     []
 

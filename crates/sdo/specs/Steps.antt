@@ -9,37 +9,38 @@ use Rattle.entries.specs.declared.table.Found.{Found}
 use Rattle.entries.specs.declared.table.Found.the-variants.{At, NoSubIndex, NoIndex}
 use Rattle.entries.specs.Table.{rowAt, width, isRw, key, lookup}
 use Rattle.dictionary.specs.Reads.{shownAt}
-use Rattle.dictionary.specs.Accepted.{refusal}
+use Rattle.dictionary.specs.Accepted.{abortCode}
+use Rattle.sdo.specs.AbortCodes.{unknownCommand, noSuchIndex, noSuchSubIndex, readOnly, tooLong, tooShort}
 use Rattle.sdo.specs.declared.request.Access.{Access}
 use Rattle.sdo.specs.declared.request.Access.the-variants.{Read, Write}
 use Rattle.sdo.specs.declared.request.Request.{Request}
-use Rattle.sdo.specs.declared.request.Request.the-variants.{Asked, Reason}
+use Rattle.sdo.specs.declared.request.Request.the-variants.{Asked, UnknownCommand}
 use Rattle.sdo.specs.declared.reply.Served.{Served}
-use Rattle.sdo.specs.Reply.{shownReply, confirmed, refused}
+use Rattle.sdo.specs.Reply.{shownReply, confirmed, aborted}
 use Rattle.sdo.specs.Service.{cutTo}
 
 -- a length of 0 is the entry's
 abbrev pub lengthCode : ℕ → ℕ → ℕ
-lengthCode n width = cond (eqb n 0) 0 (cond (ltb width n) 0x06070012 (cond (ltb n width) 0x06070013 0))
+lengthCode n width = cond (eqb n 0) 0 (cond (ltb width n) tooLong (cond (ltb n width) tooShort 0))
 
 unfoldable pub writeCode : Device → ℕ → ℕ → Row → ℕ
 writeCode d n v r =
-    cond (isRw r) (cond (eqb (lengthCode n (width r)) 0) (refusal d r v) (lengthCode n (width r))) 0x06010002
+    cond (isRw r) (cond (eqb (lengthCode n (width r)) 0) (abortCode d r v) (lengthCode n (width r))) readOnly
 
 abbrev pub rowReply : Device → List ℕ → ℕ → ℕ → Row → Served
 rowReply d f n content r =
     let v = cutTo (width r) content in
-    cond (eqb (writeCode d n v r) 0) (confirmed f (key r) v) (refused f (writeCode d n v r))
+    cond (eqb (writeCode d n v r) 0) (confirmed f (key r) v) (aborted f (writeCode d n v r))
 
 abbrev pub entryReply : Device → Bool → List ℕ → ℕ → Access → Served
 entryReply d o f p Read = shownReply f (width (rowAt p)) (shownAt d o p)
 entryReply d o f p (Write n content) = rowReply d f n content (rowAt p)
 
 abbrev pub foundReply : Device → Bool → List ℕ → Access → Found → Served
-foundReply d o f a NoIndex = refused f 0x06020000
-foundReply d o f a NoSubIndex = refused f 0x06090011
+foundReply d o f a NoIndex = aborted f noSuchIndex
+foundReply d o f a NoSubIndex = aborted f noSuchSubIndex
 foundReply d o f a (At p) = entryReply d o f p a
 
 abbrev pub replyTo : Device → Bool → List ℕ → Request → Served
 replyTo d o f (Asked ask) = foundReply d o f (ask .access) (lookup (ask .index) (ask .sub))
-replyTo d o f Reason = refused f 0x05040001
+replyTo d o f UnknownCommand = aborted f unknownCommand

@@ -1,8 +1,5 @@
 //! The reply's bytes, and what a request does.
-ghost use mathlib.Core.Path.{_≡_};
-ghost use Rattle.sdo.specs.Reply.{framed as framedBy, command, nothing, refused, confirmed, shownReply};
 use can::Bytes;
-use dictionary::read::Shown;
 
 // What a request does: nothing at all, its reply waits, or its reply waits and an entry, named by its key, gets a value.
 pub enum Effect {
@@ -15,86 +12,4 @@ pub enum Effect {
 pub struct Served {
     pub bytes: Bytes,
     pub effect: Effect,
-}
-
-const CONFIRMATION: u8 = 0x60;
-
-const ABORT: u8 = 0x80;
-
-const READ_1_BYTE: u8 = 0x4F;
-
-const READ_2_BYTES: u8 = 0x4B;
-
-const READ_4_BYTES: u8 = 0x43;
-
-const NO_DATA: u32 = 0x0800_0024;
-
-pub fn none() -> Served
-    ensures { λ r. ⌜ r ≡ nothing ⌝ }
-{
-    Served {
-        bytes: [0, 0, 0, 0, 0, 0, 0, 0],
-        effect: Effect::Nothing,
-    }
-}
-
-pub fn abort(request: Bytes, code: u32) -> Served
-    ensures { λ r. ⌜ r ≡ refused request code ⌝ }
-{
-    let bytes = framed(ABORT, request, code);
-    Served {
-        bytes: bytes,
-        effect: Effect::Reply,
-    }
-}
-
-pub fn confirm(request: Bytes, key: u32, value: u32) -> Served
-    ensures { λ r. ⌜ r ≡ confirmed request key value ⌝ }
-{
-    let bytes = framed(CONFIRMATION, request, 0);
-    Served {
-        bytes: bytes,
-        effect: Effect::Write { key, value },
-    }
-}
-
-pub fn shown(request: Bytes, width: u8, entry: Shown) -> Served
-    ensures { λ r. ⌜ r ≡ shownReply request width entry ⌝ }
-{
-    let Shown::Number(number) = entry else {
-        return abort(request, NO_DATA);
-    };
-    let bytes = framed(command_for(width), request, number);
-    Served {
-        bytes: bytes,
-        effect: Effect::Reply,
-    }
-}
-
-fn command_for(width: u8) -> u8
-    ensures { λ r. ⌜ r ≡ command width ⌝ }
-{
-    if width == 1 {
-        return READ_1_BYTE;
-    }
-    if width == 2 {
-        return READ_2_BYTES;
-    }
-    READ_4_BYTES
-}
-
-fn framed(first: u8, request: Bytes, content: u32) -> Bytes
-    ensures { λ r. ⌜ r ≡ framedBy first request content ⌝ }
-{
-    let low = can::long_bytes(content);
-    [
-        first,
-        request[1],
-        request[2],
-        request[3],
-        low[0],
-        low[1],
-        low[2],
-        low[3],
-    ]
 }

@@ -1,8 +1,4 @@
 //! A request taken apart.
-ghost use mathlib.Core.Path.{_≡_};
-ghost use Rattle.sdo.specs.Request.{isAbort, indexOf, dataOf, saidLength, taken};
-use can::Bytes;
-
 // `length` is 0 where the request leaves it to the entry.
 pub enum Access {
     Read,
@@ -15,68 +11,8 @@ pub struct Ask {
     pub access: Access,
 }
 
-// A read, a write, or a reason to abort: 0504 0001h.
+// A read, a write, or a command that gets 0504 0001h.
 pub enum Request {
     Asked(Ask),
-    Reason,
-}
-
-// Byte 0: the command in the top three bits; in a write bit 1 says expedited, bit 0 that bits 3..2 tell the length.
-const READ: u8 = 2;
-
-const WRITE: u8 = 1;
-
-const ABORT: u8 = 4;
-
-pub fn is_abort(command: u8) -> bool
-    ensures { λ r. ⌜ r ≡ isAbort command ⌝ }
-{
-    command / 32 == ABORT
-}
-
-pub fn taken_apart(bytes: Bytes) -> Request
-    ensures { λ r. ⌜ r ≡ taken bytes ⌝ }
-{
-    let command = bytes[0];
-    let index = index_of(bytes);
-    let sub = bytes[3];
-    if command / 32 == READ {
-        return Request::Asked(Ask {
-            index: index,
-            sub: sub,
-            access: Access::Read,
-        });
-    }
-    if (command / 32 == WRITE) & (command / 2 % 2 == 1) {
-        let length = said_length(command);
-        let content = data_of(bytes);
-        return Request::Asked(Ask {
-            index: index,
-            sub: sub,
-            access: Access::Write { length, content },
-        });
-    }
-    Request::Reason
-}
-
-fn index_of(bytes: Bytes) -> u16
-    ensures { λ r. ⌜ r ≡ indexOf bytes ⌝ }
-{
-    can::word(bytes[1], bytes[2])
-}
-
-fn said_length(command: u8) -> u8
-    ensures { λ r. ⌜ r ≡ saidLength command ⌝ }
-{
-    if command % 2 == 1 {
-        4 - command / 4 % 4
-    } else {
-        0
-    }
-}
-
-fn data_of(bytes: Bytes) -> u32
-    ensures { λ r. ⌜ r ≡ dataOf bytes ⌝ }
-{
-    can::long(bytes[4], bytes[5], bytes[6], bytes[7])
+    UnknownCommand,
 }

@@ -24,7 +24,8 @@ returns : tie.Need-returns
 returns c =
     let b = c .before .before .before in
     c .moved .ensures
-    ∙ ap₂ (λ (d : ℕ) (z : ℤ). modℤ (pos d +ℤ z) (b .args .profile .range)) (c .before .before .directed-of .ensures) (offset-passed (b .pre))
+    ∙ ap₂ (λ (d : ℕ) (z : ℤ). modℤ (pos d +ℤ z) (b .args .profile .range)) (c .before .before .directed-of .ensures)
+    (offset-passed (b .pre))
 
 pub position-of-spec : {M : Type 1} → statement M
 position-of-spec = tie.close (tie.spec directed-of-requires moved-requires returns)

@@ -15,7 +15,8 @@ offset-of-requires : tie.Need-offset-of-requires
 offset-of-requires c κs =
     let b = c .before in
     let h : 0 < b .args .profile .range = omega arith in
-    let l : c .directed-of .result < b .args .profile .range = rw (c .directed-of .ensures) (directed-below (b .args .profile) (b .args .raw) h) in
+    let l : c .directed-of .result < b .args .profile .range =
+    rw (c .directed-of .ensures) (directed-below (b .args .profile) (b .args .raw) h) in
     omega arith
 
 returns : tie.Need-returns

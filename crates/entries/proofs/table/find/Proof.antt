@@ -1,10 +1,10 @@
--- `table::find` meets its contract: by the index, and then among its sub-indices.
+-- `table::find` meets its contract: by the index, and then by its sub-indices.
 use mathlib.Core.Path.{refl, _∙_}
 use mathlib.Core.List.{List, [], _∷_}
 use Prim.Native.Nat.{ℕ}
 use borrow.Author.Needs.{needs}
 use Rattle.entries.specs.Table.{entries, table, lookup}
-use Rattle.entries.proofs.Lookup.{among, among-pdo, absent}
+use Rattle.entries.proofs.Lookup.{by-sub-index, pdo-by-sub-index, absent}
 use Rattle.entries.proofs.table.find.Statement.{statement}
 use Rattle.entries.proofs.table.find.Tie as tie
 
@@ -50,29 +50,29 @@ find-spec =
     (λ c κs. search needs)
     (λ c κs. search needs)
     (λ c κs. search needs)
-    (λ c. rw (c .before .match .keys1) (c .among .ensures ∙ among 0 1 (c .before .before .args .sub)))
-    (λ c. rw (c .before .match .keys2) (c .among2 .ensures ∙ among 1 1 (c .before .before .args .sub)))
-    (λ c. rw (c .before .match .keys3) (c .among3 .ensures ∙ among 2 5 (c .before .before .args .sub)))
-    (λ c. rw (c .before .match .keys4) (c .among4 .ensures ∙ among 7 1 (c .before .before .args .sub)))
-    (λ c. rw (c .before .match .keys5) (c .among5 .ensures ∙ among 8 2 (c .before .before .args .sub)))
-    (λ c. rw (c .before .match .keys6) (c .among6 .ensures ∙ among 10 2 (c .before .before .args .sub)))
-    (λ c. rw (c .before .match .keys7) (c .among7 .ensures ∙ among 12 1 (c .before .before .args .sub)))
-    (λ c. rw (c .before .match .keys8) (c .among8 .ensures ∙ among 13 1 (c .before .before .args .sub)))
-    (λ c. rw (c .before .match .keys9) (c .among9 .ensures ∙ among 14 1 (c .before .before .args .sub)))
-    (λ c. rw (c .before .match .keys10) (c .among10 .ensures ∙ among 15 5 (c .before .before .args .sub)))
-    (λ c. rw (c .before .match .keys11) (c .among-pdo .ensures ∙ among-pdo 20 (c .before .before .args .sub)))
-    (λ c. rw (c .before .match .keys12) (c .among-pdo2 .ensures ∙ among-pdo 24 (c .before .before .args .sub)))
-    (λ c. rw (c .before .match .keys13) (c .among11 .ensures ∙ among 28 2 (c .before .before .args .sub)))
-    (λ c. rw (c .before .match .keys14) (c .among12 .ensures ∙ among 30 2 (c .before .before .args .sub)))
-    (λ c. rw (c .before .match .keys15) (c .among13 .ensures ∙ among 32 1 (c .before .before .args .sub)))
-    (λ c. rw (c .before .match .keys16) (c .among14 .ensures ∙ among 33 1 (c .before .before .args .sub)))
-    (λ c. rw (c .before .match .keys17) (c .among15 .ensures ∙ among 34 1 (c .before .before .args .sub)))
-    (λ c. rw (c .before .match .keys18) (c .among16 .ensures ∙ among 35 1 (c .before .before .args .sub)))
-    (λ c. rw (c .before .match .keys19) (c .among17 .ensures ∙ among 36 2 (c .before .before .args .sub)))
-    (λ c. rw (c .before .match .keys20) (c .among18 .ensures ∙ among 38 1 (c .before .before .args .sub)))
-    (λ c. rw (c .before .match .keys21) (c .among19 .ensures ∙ among 39 1 (c .before .before .args .sub)))
-    (λ c. rw (c .before .match .keys22) (c .among20 .ensures ∙ among 40 1 (c .before .before .args .sub)))
-    (λ c. rw (c .before .match .keys23) (c .among21 .ensures ∙ among 41 1 (c .before .before .args .sub)))
-    (λ c. rw (c .before .match .keys24) (c .among22 .ensures ∙ among 42 1 (c .before .before .args .sub)))
-    (λ c. rw (c .before .match .keys25) (c .among23 .ensures ∙ among 43 1 (c .before .before .args .sub)))
+    (λ c. rw (c .before .match .keys1) (c .by-sub-index .ensures ∙ by-sub-index 0 1 (c .before .before .args .sub)))
+    (λ c. rw (c .before .match .keys2) (c .by-sub-index2 .ensures ∙ by-sub-index 1 1 (c .before .before .args .sub)))
+    (λ c. rw (c .before .match .keys3) (c .by-sub-index3 .ensures ∙ by-sub-index 2 5 (c .before .before .args .sub)))
+    (λ c. rw (c .before .match .keys4) (c .by-sub-index4 .ensures ∙ by-sub-index 7 1 (c .before .before .args .sub)))
+    (λ c. rw (c .before .match .keys5) (c .by-sub-index5 .ensures ∙ by-sub-index 8 2 (c .before .before .args .sub)))
+    (λ c. rw (c .before .match .keys6) (c .by-sub-index6 .ensures ∙ by-sub-index 10 2 (c .before .before .args .sub)))
+    (λ c. rw (c .before .match .keys7) (c .by-sub-index7 .ensures ∙ by-sub-index 12 1 (c .before .before .args .sub)))
+    (λ c. rw (c .before .match .keys8) (c .by-sub-index8 .ensures ∙ by-sub-index 13 1 (c .before .before .args .sub)))
+    (λ c. rw (c .before .match .keys9) (c .by-sub-index9 .ensures ∙ by-sub-index 14 1 (c .before .before .args .sub)))
+    (λ c. rw (c .before .match .keys10) (c .by-sub-index10 .ensures ∙ by-sub-index 15 5 (c .before .before .args .sub)))
+    (λ c. rw (c .before .match .keys11) (c .pdo-by-sub-index .ensures ∙ pdo-by-sub-index 20 (c .before .before .args .sub)))
+    (λ c. rw (c .before .match .keys12) (c .pdo-by-sub-index2 .ensures ∙ pdo-by-sub-index 24 (c .before .before .args .sub)))
+    (λ c. rw (c .before .match .keys13) (c .by-sub-index11 .ensures ∙ by-sub-index 28 2 (c .before .before .args .sub)))
+    (λ c. rw (c .before .match .keys14) (c .by-sub-index12 .ensures ∙ by-sub-index 30 2 (c .before .before .args .sub)))
+    (λ c. rw (c .before .match .keys15) (c .by-sub-index13 .ensures ∙ by-sub-index 32 1 (c .before .before .args .sub)))
+    (λ c. rw (c .before .match .keys16) (c .by-sub-index14 .ensures ∙ by-sub-index 33 1 (c .before .before .args .sub)))
+    (λ c. rw (c .before .match .keys17) (c .by-sub-index15 .ensures ∙ by-sub-index 34 1 (c .before .before .args .sub)))
+    (λ c. rw (c .before .match .keys18) (c .by-sub-index16 .ensures ∙ by-sub-index 35 1 (c .before .before .args .sub)))
+    (λ c. rw (c .before .match .keys19) (c .by-sub-index17 .ensures ∙ by-sub-index 36 2 (c .before .before .args .sub)))
+    (λ c. rw (c .before .match .keys20) (c .by-sub-index18 .ensures ∙ by-sub-index 38 1 (c .before .before .args .sub)))
+    (λ c. rw (c .before .match .keys21) (c .by-sub-index19 .ensures ∙ by-sub-index 39 1 (c .before .before .args .sub)))
+    (λ c. rw (c .before .match .keys22) (c .by-sub-index20 .ensures ∙ by-sub-index 40 1 (c .before .before .args .sub)))
+    (λ c. rw (c .before .match .keys23) (c .by-sub-index21 .ensures ∙ by-sub-index 41 1 (c .before .before .args .sub)))
+    (λ c. rw (c .before .match .keys24) (c .by-sub-index22 .ensures ∙ by-sub-index 42 1 (c .before .before .args .sub)))
+    (λ c. rw (c .before .match .keys25) (c .by-sub-index23 .ensures ∙ by-sub-index 43 1 (c .before .before .args .sub)))
     no-index)

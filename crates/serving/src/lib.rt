@@ -1,0 +1,71 @@
+//! The expedited SDO server: from a request's eight bytes to the reply's, and to what the write does.
+ghost use mathlib.Core.Path.{_≡_};
+ghost use Prim.Native.Nat.{_<_};
+ghost use lib.ListN.{length};
+ghost use Rattle.entries.specs.Table.{table};
+ghost use Rattle.position.specs.Profile.{ValidProfile};
+ghost use Rattle.sdo.specs.Steps.{entryReply, replyTo};
+ghost use Rattle.sdo.specs.Service.{answer, due};
+use can::Bytes;
+use entries::Device;
+use entries::table::Found;
+use sdo::reply::Served;
+use sdo::request::Access;
+use sdo::request::Request;
+
+mod download;
+
+const UNKNOWN_COMMAND: u32 = 0x0504_0001;
+
+const NO_SUCH_INDEX: u32 = 0x0602_0000;
+
+const NO_SUCH_SUB_INDEX: u32 = 0x0609_0011;
+
+// The reply that is due to a request, and what the request does; a client's abort gets none and does nothing.
+pub fn serve(device: Device, operational: bool, bytes: Bytes) -> Served
+    requires { ⌜ ValidProfile (device .settings .profile) ⌝ }
+    ensures { λ r. ⌜ r ≡ answer bytes (due device operational bytes) ⌝ }
+{
+    if requests::is_abort(bytes[0]) {
+        return replies::no_reply();
+    }
+    reply_to(device, operational, bytes, requests::taken_apart(bytes))
+}
+
+fn reply_to(device: Device, operational: bool, bytes: Bytes, request: Request) -> Served
+    requires { ⌜ ValidProfile (device .settings .profile) ⌝ }
+    ensures { λ r. ⌜ r ≡ replyTo device operational bytes request ⌝ }
+{
+    let Request::Asked(ask) = request else {
+        return replies::abort(bytes, UNKNOWN_COMMAND);
+    };
+    let access = ask.access;
+    let found = entries::table::find(ask.index, ask.sub);
+    match found {
+        Found::NoIndex => replies::abort(bytes, NO_SUCH_INDEX),
+        Found::NoSubIndex => replies::abort(bytes, NO_SUCH_SUB_INDEX),
+        Found::At(place) => entry_reply(device, operational, bytes, place, access),
+    }
+}
+
+fn entry_reply(
+    device: Device,
+    operational: bool,
+    bytes: Bytes,
+    place: usize,
+    access: Access,
+) -> Served
+    requires { ⌜ (place < length table) × (ValidProfile (device .settings .profile)) ⌝ }
+    ensures { λ r. ⌜ r ≡ entryReply device operational bytes place access ⌝ }
+{
+    let row = entries::table::row_at(place);
+    match access {
+        Access::Read => {
+            let width = row.2;
+            replies::shown(bytes, width, values::read(device, operational, place))
+        }
+        Access::Write { length, content } => {
+            download::to_row(device, bytes, length, content, row)
+        }
+    }
+}
