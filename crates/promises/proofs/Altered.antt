@@ -1,10 +1,11 @@
 -- What a call does to the device: a sample, a reset and a request that is served alter it, and nothing else does.
 use Prim.Native.Nat.{ℕ}
-use lib.Dec.{eqb, ltb}
+use lib.Dec.{ltb}
 use mathlib.Core.Path.{_≡_, refl}
 use mathlib.Core.Bool.{true, false}
 use Rattle.cases.proofs.Cases.{by}
 use Rattle.can.specs.declared.Received.{Received}
+use Rattle.position.specs.Profile.{highestRaw}
 use Rattle.entries.specs.declared.Device.{Device}
 use Rattle.dictionary.specs.Writes.{written}
 use Rattle.sdo.specs.declared.reply.Effect.{Effect}
@@ -14,12 +15,14 @@ use Rattle.waiting.specs.Line.{first}
 use Rattle.parts.specs.declared.Head.{Head}
 use Rattle.parts.specs.declared.Sensor.the-variants.{Missing, Raw}
 use Rattle.promises.specs.States.{isInitialising, Reset, restored, missingReading, toReset}
-use Rattle.promises.specs.WaitingLine.{Kind, emergency, sdoReply, heartbeat, tpdo, kindOf}
-use Rattle.promises.specs.Acts.{Act, nothing, enter, reset, boot, idle, send, take, lose, time, sync, serve, sensed, resetTo, errorsAfter, acted}
+use Rattle.promises.specs.WaitingLine.{Kind, emergency, sdoReply, heartbeat, tpdo}
+use Rattle.promises.specs.Acts.{Act, nothing, enter, reset, boot, idle, send, take, lose, time}
+use Rattle.promises.specs.Acts.{sync, serve, sensed, resetTo, errorsAfter, acted}
 use Rattle.promises.specs.Calls.{Call, receive, tick, sample, slot, meant, step}
 use Rattle.promises.specs.Valid.{Valid}
 use Rattle.promises.specs.Meant.{Commands, Requests}
 use Rattle.promises.specs.Service.{replyDue}
+use Rattle.promises.proofs.KindNumbers.{sent-as}
 use Rattle.promises.proofs.Meant.{core-step}
 use Rattle.promises.proofs.Causes.{Cause, cause}
 
@@ -35,8 +38,9 @@ pub data Altered (h : Head) : Call → Device → Type 0 where
   heard : (f : Received) → Altered h (receive f) (h .core .device)
   timed : Altered h tick (h .core .device)
   sent : Altered h slot (h .core .device)
-  refused : (r : ℕ) → ltb 1048575 r ≡ true → Altered h (sample (Raw r)) (h .core .device)
-  took : (r : ℕ) → ltb 1048575 r ≡ false → Altered h (sample (Raw r)) (sensed (h .core .device) (record { good = true; raw = r }) (h .core .device .errors))
+  refused : (r : ℕ) → ltb highestRaw r ≡ true → Altered h (sample (Raw r)) (h .core .device)
+  took : (r : ℕ) → ltb highestRaw r ≡ false
+      → Altered h (sample (Raw r)) (sensed (h .core .device) (record { good = true; raw = r }) (h .core .device .errors))
   lost : Altered h (sample Missing) (sensed (h .core .device) missingReading (errorsAfter (h .core .device)))
   restarted : (f : Received) (r : Reset) → Commands h f (toReset r)
       → Altered h (receive f) (resetTo (h .core .device) (restored r (h .core .device .settings) (h .core .device .saved)))
@@ -69,10 +73,10 @@ module _ (h : Head) (v : Valid h) where
   by-call (receive f) = by-frame f (meant h (receive f)) (cause h f v)
   by-call tick = by (By tick) (isInitialising (h .core)) (λ _. timed) (λ _. timed)
   by-call (sample Missing) = lost
-  by-call (sample (Raw r)) = by (By (sample (Raw r))) (ltb 1048575 r) (refused r) (took r)
+  by-call (sample (Raw r)) = by (By (sample (Raw r))) (ltb highestRaw r) (refused r) (took r)
   by-call slot =
       by (By slot) (isInitialising (h .core)) (λ _. sent)
-      (λ _. by (By slot) (eqb (first (h .line)) 0) (λ _. sent) (λ _. by-sending (kindOf (first (h .line)))))
+      (λ _. sent-as (By slot) (first (h .line)) sent by-sending)
 
   pub altered : (c : Call) → Altered h c (step h c .core .device)
   altered c = rw (core-step h c) (by-call c)

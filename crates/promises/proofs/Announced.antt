@@ -10,7 +10,7 @@ use Rattle.dictionary.specs.Valid.{ValidDevice}
 use Rattle.parts.specs.declared.Core.{Core}
 use Rattle.parts.specs.declared.Head.{Head}
 use Rattle.promises.specs.States.{isInitialising, node, good}
-use Rattle.promises.specs.WaitingLine.{Kind, emergency, sdoReply, heartbeat, tpdo, may, frameOf}
+use Rattle.promises.specs.WaitingLine.{Kind, emergency, sdoReply, heartbeat, tpdo, mayStay, frameOf}
 use Rattle.promises.specs.Acts.{Act, nothing, enter, reset, boot, idle, send, take, lose, time, sync, serve, sending, acted, frameBy}
 use Rattle.promises.specs.Calls.{Call, isSlot, meant, step}
 use Rattle.promises.specs.Valid.{Valid}
@@ -33,7 +33,7 @@ abbrev Announced : ℕ → Option Frame → Core → Type 0
 Announced n last c = isInitialising c ≡ false → Said n last (c .announced)
 
 module _ (n : ℕ) (last : Option Frame) (c : Core) (q : node c ≡ n) (v : ValidDevice (c .device)) (s : Announced n last c) where
-  says : (k : Kind) → may c k ≡ true → Announced n (lastAfter n last (frameOf c k ∷ [])) (sending c k)
+  says : (k : Kind) → mayStay c k ≡ true → Announced n (lastAfter n last (frameOf c k ∷ [])) (sending c k)
   says emergency m =
       let f = known n c q v emergency m in
       λ _. rw (f .boot-up, f .emergency, q) (test (good c) (λ e. rw e said-good) (λ e. rw e said-missing))
@@ -41,7 +41,7 @@ module _ (n : ℕ) (last : Option Frame) (c : Core) (q : node c ≡ n) (v : Vali
   says heartbeat m = let f = known n c q v heartbeat m in rw (f .boot-up, f .emergency) s
   says (tpdo w) m = let f = known n c q v (tpdo w) m in rw (f .boot-up, f .emergency) s
 
-  announced-act : (atSlot : Bool) (a : Act) → Fits atSlot c a → Fresh c → ((k : Kind) → a ≡ send k → may c k ≡ true)
+  announced-act : (atSlot : Bool) (a : Act) → Fits atSlot c a → Fresh c → ((k : Kind) → a ≡ send k → mayStay c k ≡ true)
       → Announced n (lastAfter n last (framed (frameBy c a))) (acted c a)
   announced-act b nothing f g w = s
   announced-act b (enter o) f g w = λ _. s f
@@ -63,9 +63,11 @@ announced-after n (x ∷ cs) h last q v s =
     rw (last-append n last (frames h x) (sent (step h x) cs))
     (announced-after n cs (step h x) (lastAfter n last (frames h x)) (node-step h v x ∙ q) (valid-step h x v)
     (rw (frames-by h v x, core-step h x)
-    (announced-act n last (h .core) q (v .device) s (isSlot x) (meant h x) (fits h x) (v .fresh) (λ k e. v .only k (sent-waits h v x k e)))))
+    (announced-act n last (h .core) q (v .device) s (isSlot x) (meant h x) (fits h x) (v .fresh)
+    (λ k e. v .only k (sent-waits h v x k e)))))
 
-pub announced : (p : PowerUp) (cs : List Call) → Announced (nodeOf p) (lastEmergency (nodeOf p) (sent (powered p) cs)) (after (powered p) cs .core)
+pub announced : (p : PowerUp) (cs : List Call)
+    → Announced (nodeOf p) (lastEmergency (nodeOf p) (sent (powered p) cs)) (after (powered p) cs .core)
 announced p cs =
     announced-after (nodeOf p) cs (powered p) none (node-powered p) (valid-powered p)
     (at-power-up (λ h. Announced (nodeOf p) none (h .core)) (λ _ _ _. unsaid) p)

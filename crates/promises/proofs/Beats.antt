@@ -4,6 +4,7 @@ use lib.Dec.{eqb}
 use mathlib.Core.Path.{_≡_, ap₂}
 use mathlib.Core.Bool.{Bool, false, _||_, cond}
 use Rattle.cases.proofs.Cases.{test, true-false}
+use Rattle.entries.specs.Keys.{heartbeatKey}
 use Rattle.dictionary.specs.Writes.{written}
 use Rattle.sdo.specs.declared.reply.Effect.{Effect}
 use Rattle.sdo.specs.declared.reply.Effect.the-variants.{Nothing, Reply, Write}
@@ -35,7 +36,7 @@ module _ (c : Core) (n : ℕ) where
   unfolding written
   by-write Nothing r = r
   by-write Reply r = r
-  by-write (Write k v) r = test (eqb k 0x1017_00) (λ e. rw e (anew v)) (λ e. rw e r)
+  by-write (Write k v) r = test (eqb k heartbeatKey) (λ e. rw e (anew v)) (λ e. rw e r)
 
   beats-act : (b : Bool) (a : Act) → Fits b c a → Beats c n → Beats (acted c a) (beatBy (marks a) n)
   beats-act b nothing f r i = r i
@@ -57,7 +58,8 @@ module _ (h : Head) (n : ℕ) (v : Valid h) (x : Call) where
   same-count : countBy beatsAnew beatCounts h x n ≡ beatBy (marks (meant h x)) n
   same-count =
       let t = tested h v x in
-      ap₂ (λ (anew ticks : Bool). cond anew 0 (cond ticks (suc n) n)) (ap₂ (λ (a b : Bool). a || b) (t .boots) (t .written isPeriod)) (t .beats)
+      ap₂ (λ (anew ticks : Bool). cond anew 0 (cond ticks (suc n) n)) (ap₂ (λ (a b : Bool). a || b) (t .boots) (t .written isPeriod))
+      (t .beats)
 
   pub beats-step : Beats (h .core) n → Beats (step h x .core) (countBy beatsAnew beatCounts h x n)
   beats-step r = rw (same-count, core-step h x) (beats-act (h .core) n (isSlot x) (meant h x) (fits h x) r)

@@ -9,6 +9,7 @@ use Rattle.cases.proofs.Cases.{by, test, true-false}
 use Rattle.waiting.specs.Line.{has}
 use Rattle.parts.specs.declared.Head.{Head}
 use Rattle.parts.specs.declared.Sensor.the-variants.{Missing, Raw}
+use Rattle.position.specs.Profile.{highestRaw}
 use Rattle.promises.specs.States.{isInitialising, node}
 use Rattle.promises.specs.WaitingLine.{number, frame}
 use Rattle.promises.specs.Acts.{acted}
@@ -25,14 +26,17 @@ use Rattle.promises.proofs.Meant.{core-step}
 use Rattle.promises.proofs.SameNode.{node-step}
 
 -- In Initialising no call but a slot leaves it.
-starting-stays : (h : Head) (c : Call) → Valid h → isInitialising (h .core) ≡ true → isSlot c ≡ false → isInitialising (step h c .core) ≡ true
+starting-stays : (h : Head) (c : Call) → Valid h → isInitialising (h .core) ≡ true → isSlot c ≡ false
+    → isInitialising (step h c .core) ≡ true
 starting-stays h (receive f) v i s = rw (step-nothing h (receive f) refl (unmeant h f v (not-booted i))) i
 starting-stays h tick v i s = rw (step-nothing h tick refl (rw i)) i
 starting-stays h (sample Missing) v i s = rw (core-step h (sample Missing)) i
-starting-stays h (sample (Raw r)) v i s = rw (core-step h (sample (Raw r))) (by (λ a. isInitialising (acted (h .core) a) ≡ true) (ltb 1048575 r) (λ _. i) (λ _. i))
+starting-stays h (sample (Raw r)) v i s =
+    rw (core-step h (sample (Raw r))) (by (λ a. isInitialising (acted (h .core) a) ≡ true) (ltb highestRaw r) (λ _. i) (λ _. i))
 starting-stays h slot v i s = true-false s
 
-pub boots : (n : ℕ) (cs : List Call) (h : Head) → Valid h → isInitialising (h .core) ≡ true → node (h .core) ≡ n → slots cs ≡ 0 → BootUpWaits n (after h cs)
+pub boots : (n : ℕ) (cs : List Call) (h : Head) → Valid h → isInitialising (h .core) ≡ true → node (h .core) ≡ n → slots cs ≡ 0
+    → BootUpWaits n (after h cs)
 boots n [] h v i q z =
     let b = answers h (boots-now h i) in
     record {

@@ -58,17 +58,25 @@ module _ (h : Head) (f : Received) (v : Valid h) where
   pub writes : {k n : ℕ} → Writes h f k n → step h (receive f) .core ≡ acted (h .core) (serve (confirmed (f .bytes) k n))
   writes w = core-step h (receive f) ∙ ap (acted (h .core)) (means (w .requests) (w .accepted))
 
-  by-command : (x : Heard h f) → f .identifier ≡ 0x000 → (k : Command) → commandOf (node (h .core)) f ≡ k → Cause h f (commanded (h .core) k)
+  by-command : (x : Heard h f) → f .identifier ≡ 0x000 → (k : Command) → commandOf (node (h .core)) f ≡ k
+      → Cause h f (commanded (h .core) k)
   by-command x i noCommand e = tt
   by-command x i (toEnter g) e = by (Cause h f) (isIn g (h .core)) (λ _. tt) (λ n. (record { hears = x; identifier = i; says = e }, n))
   by-command x i (toReset r) e = record { hears = x; identifier = i; says = e }
 
-  pub by-request : (x : Heard h f) → f .identifier ≡ 0x600 + node (h .core) → (eqb (f .length) 8 && isLive (h .core) && not (has line.sdoReply (h .line))) ≡ true → Requests h f
+  pub by-request : (x : Heard h f) → f .identifier ≡ 0x600 + node (h .core)
+      → (eqb (f .length) 8 && isLive (h .core) && not (has line.sdoReply (h .line))) ≡ true → Requests h f
   by-request x i t =
       let free = not (has line.sdoReply (h .line)) in
       let u = both (eqb (f .length) 8 && isLive (h .core)) free t in
       let w = both (eqb (f .length) 8) (isLive (h .core)) (u .0) in
-      record { hears = x; identifier = i; length = eqb-true (f .length) 8 (w .0); live = w .1; free = sym (reply-waiting h v) ∙ not-true _ (u .1) }
+      record {
+        hears = x;
+        identifier = i;
+        length = eqb-true (f .length) 8 (w .0);
+        live = w .1;
+        free = sym (reply-waiting h v) ∙ not-true _ (u .1);
+      }
 
   pub by-sync : (x : Heard h f) → f .identifier ≡ 0x080 → (leb (f .length) 1 && isIn operational (h .core)) ≡ true → Synchronises h f
   by-sync x i t =

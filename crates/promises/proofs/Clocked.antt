@@ -20,10 +20,13 @@ use Rattle.sdo.proofs.Laws.{laws}
 use Rattle.parts.specs.declared.Timers.{Timers}
 use Rattle.parts.specs.declared.Core.{Core}
 use Rattle.parts.specs.declared.Head.{Head}
-use Rattle.promises.specs.States.{operational, stopped, preOperational, isIn, communication, Which, one, two, pdo, clock, uncounted}
+use Rattle.promises.specs.States.{operational, stopped, preOperational, isIn, communication}
+use Rattle.promises.specs.States.{PdoNumber, one, two, pdo, clock, uncounted}
 use Rattle.promises.specs.WaitingLine.{emergency, sdoReply, heartbeat, tpdo}
-use Rattle.promises.specs.Timers.{synchronous, clockSynced, ifRunning, timersTicked, timersSynced, switchedOn, clockWritten, timersWritten}
-use Rattle.promises.specs.Acts.{Act, nothing, enter, reset, boot, idle, send, take, lose, time, sync, serve, uncountedPdos, inhibited, timersAfter, acted}
+use Rattle.promises.specs.Timers.{synchronous, clockSynced, ifRunning, timersTicked}
+use Rattle.promises.specs.Timers.{timersSynced, switchedOn, clockWritten, timersWritten}
+use Rattle.promises.specs.Acts.{Act, nothing, enter, reset, boot, idle, send, take, lose, time, sync}
+use Rattle.promises.specs.Acts.{serve, uncountedPdos, inhibited, timersAfter, acted}
 use Rattle.promises.specs.Calls.{Call, isSlot, meant, step}
 use Rattle.promises.specs.Valid.{Valid}
 use Rattle.promises.specs.Withdrawals.{identifierKey}
@@ -38,44 +41,46 @@ use Rattle.promises.proofs.Tested.{Marks, marks, effectTo, tested}
 
 -- what becomes of one PDO's clock
 module _ (s : Communication) (t : Timers) where
-  clock-uncounted : (w : Which) → clock (uncountedPdos t) w ≡ uncounted
+  clock-uncounted : (w : PdoNumber) → clock (uncountedPdos t) w ≡ uncounted
   clock-uncounted one = refl
   clock-uncounted two = refl
 
-  clock-inhibited : (ticks : ℕ) (w : Which) → clock (inhibited t ticks) w ≡ clock t w
+  clock-inhibited : (ticks : ℕ) (w : PdoNumber) → clock (inhibited t ticks) w ≡ clock t w
   clock-inhibited ticks one = refl
   clock-inhibited ticks two = refl
 
-  clock-ticked : (runs : Bool) (w : Which) → clock (timersTicked runs s t) w ≡ ifRunning runs (pdo s w) (clock t w)
+  clock-ticked : (runs : Bool) (w : PdoNumber) → clock (timersTicked runs s t) w ≡ ifRunning runs (pdo s w) (clock t w)
   clock-ticked runs one = refl
   clock-ticked runs two = refl
 
-  clock-synced : (w : Which) → clock (timersSynced s t) w ≡ clockSynced (pdo s w) (clock t w)
+  clock-synced : (w : PdoNumber) → clock (timersSynced s t) w ≡ clockSynced (pdo s w) (clock t w)
   clock-synced one = refl
   clock-synced two = refl
 
-  clock-written : (k v : ℕ) (later : Communication) (w : Which) → clock (timersWritten k s later t) w ≡ clockWritten (isSub5 w k v) (pdo s w) (pdo later w) (clock t w)
+  clock-written : (k v : ℕ) (later : Communication) (w : PdoNumber)
+      → clock (timersWritten k s later t) w ≡ clockWritten (isSub5 w k v) (pdo s w) (pdo later w) (clock t w)
   clock-written k v later one = refl
   clock-written k v later two = refl
 
 module _ (s : Communication) (k v : ℕ) where
   -- only a write to sub 5 alters the event time
-  event-kept : (w : Which) → isSub5 w k v ≡ false → pdo (communicationAfter s k v) w .event ≡ pdo s w .event
+  event-kept : (w : PdoNumber) → isSub5 w k v ≡ false → pdo (communicationAfter s k v) w .event ≡ pdo s w .event
   event-kept one e = rw (own-key k, e)
   event-kept two e = rw e
 
   -- only a write to sub 1 that clears bit 31 switches on
-  switched : (w : Which) → switchedOn (pdo s w) (pdo (communicationAfter s k v) w) ≡ (isSwitch w k v && not (on (pdo s w .identifier)))
+  switched : (w : PdoNumber) → switchedOn (pdo s w) (pdo (communicationAfter s k v) w) ≡ (isSwitch w k v && not (on (pdo s w .identifier)))
   switched w =
       ap (λ i. not (on (pdo s w .identifier)) && on i) (identifier w)
-      ∙ test (eqb k (identifierKey w)) (λ e. rw e (and-comm (not (on (pdo s w .identifier))) (on v))) (λ e. rw e (not-and-self (on (pdo s w .identifier))))
+      ∙ test (eqb k (identifierKey w)) (λ e. rw e (and-comm (not (on (pdo s w .identifier))) (on v)))
+      (λ e. rw e (not-and-self (on (pdo s w .identifier))))
     where
-      identifier : (w : Which) → pdo (communicationAfter s k v) w .identifier ≡ cond (eqb k (identifierKey w)) v (pdo s w .identifier)
+      identifier : (w : PdoNumber) → pdo (communicationAfter s k v) w .identifier ≡ cond (eqb k (identifierKey w)) v (pdo s w .identifier)
       identifier one = rw (own-identifier k)
       identifier two = refl
 
   -- While a PDO is on its type cannot be written.
-  transmission-kept : (w : Which) → pdoBarred (pdoIndex w) (pdo s w) k v ≡ false → on (pdo s w .identifier) ≡ true
+  transmission-kept : (w : PdoNumber) → pdoBarred (pdoIndex w) (pdo s w) k v ≡ false → on (pdo s w .identifier) ≡ true
       → pdo (communicationAfter s k v) w .transmission ≡ pdo s w .transmission
   transmission-kept one e o = rw (type-kept 0x1800 (s .pdo1) (ownKey k) v (own-free (s .pdo1) k v e) o)
   transmission-kept two e o = rw (type-kept 0x1801 (s .pdo2) k v e o)
@@ -89,27 +94,27 @@ restarted false true period before t n same r = anew period
 restarted false false period before t n same r = rw (same refl) r
 
 -- the counts after an act: from entry or from switching on
-abbrev begun : Which → Core → Marks → Bool
+abbrev begun : PdoNumber → Core → Marks → Bool
 begun w c m = m .enters || effectTo (isSwitch w) (m .effect) && not (on (pdo (communication c) w .identifier))
 
-abbrev tickBy : Which → Core → Marks → ℕ → ℕ
+abbrev tickBy : PdoNumber → Core → Marks → ℕ → ℕ
 tickBy w c m n = cond (begun w c m || effectTo (isSub5 w) (m .effect)) 0 (cond (m .times && isIn operational c) (suc n) n)
 
-abbrev syncBy : Which → Core → Marks → ℕ → ℕ
+abbrev syncBy : PdoNumber → Core → Marks → ℕ → ℕ
 syncBy w c m n = cond (begun w c m) 0 (cond (m .syncs) (suc n) n)
 
 -- ticks count in Operational; SYNCs for a PDO that is on and of types 1..240
-abbrev pub Ticks : Which → Core → ℕ → Type 0
+abbrev pub Ticks : PdoNumber → Core → ℕ → Type 0
 Ticks w c n = isIn operational c ≡ true → Rest (pdo (communication c) w .event) (clock (c .timers) w .ticks) n
 
-abbrev pub Syncs : Which → Core → ℕ → Type 0
+abbrev pub Syncs : PdoNumber → Core → ℕ → Type 0
 Syncs w c n =
     isIn operational c ≡ true
     → on (pdo (communication c) w .identifier) ≡ true
     → synchronous (pdo (communication c) w) ≡ true
     → Rest (pdo (communication c) w .transmission) (clock (c .timers) w .syncs) n
 
-module _ (w : Which) (c : Core) (n : ℕ) where
+module _ (w : PdoNumber) (c : Core) (n : ℕ) where
   abbrev s : Communication
   s = communication c
 
@@ -125,7 +130,8 @@ module _ (w : Which) (c : Core) (n : ℕ) where
   ticks-written (Write k v) r =
       let later = communicationAfter s k v in
       rw (clock-written s t k v later w, ← switched s k v w)
-      (restarted (isSub5 w k v) (switchedOn (pdo s w) (pdo later w)) (pdo later w .event) (pdo s w .event) (clock t w .ticks) n (event-kept s k v w) r)
+      (restarted (isSub5 w k v) (switchedOn (pdo s w) (pdo later w)) (pdo later w .event) (pdo s w .event) (clock t w .ticks) n
+      (event-kept s k v w) r)
 
   ticks-act : (b : Bool) (a : Act) → Fits b c a → Ticks w c n → Ticks w (acted c a) (tickBy w c (marks a) n)
   ticks-act b nothing f r o = r o
@@ -192,14 +198,15 @@ module _ (w : Which) (c : Core) (n : ℕ) where
       let from-due = syncs-told o r q _ (due (c .device) (isIn operational c) q) (laws (c .device) (isIn operational c) q .told) in
       subst (λ e. SyncsBy e) (ap (λ (u : Served). u .effect) (sym (f .1 .1))) from-due y z
 
-module _ (w : Which) (h : Head) (n : ℕ) (v : Valid h) (x : Call) where
+module _ (w : PdoNumber) (h : Head) (n : ℕ) (v : Valid h) (x : Call) where
   same-begun : syncsAnew w h x ≡ begun w (h .core) (marks (meant h x))
   same-begun = ap₂ (λ (e o : Bool). e || o && not (on (pdoOf h w .identifier))) (tested h v x .enters) (tested h v x .written (isSwitch w))
 
   pub ticks-step : Ticks w (h .core) n → Ticks w (step h x .core) (countBy (ticksAnew w) tickCounts h x n)
   ticks-step r =
       let same : countBy (ticksAnew w) tickCounts h x n ≡ tickBy w (h .core) (marks (meant h x)) n =
-      ap₂ (λ (anew ticks : Bool). cond anew 0 (cond ticks (suc n) n)) (ap₂ (λ (b e : Bool). b || e) same-begun (tested h v x .written (isSub5 w))) (tested h v x .ticks) in
+      ap₂ (λ (anew ticks : Bool). cond anew 0 (cond ticks (suc n) n))
+      (ap₂ (λ (b e : Bool). b || e) same-begun (tested h v x .written (isSub5 w))) (tested h v x .ticks) in
       rw (same, core-step h x) (ticks-act w (h .core) n (isSlot x) (meant h x) (fits h x) r)
 
   pub syncs-step : Syncs w (h .core) n → Syncs w (step h x .core) (countBy (syncsAnew w) synchronises h x n)

@@ -32,7 +32,8 @@ was-on true after o e = refl
 was-on false after o e = true-false (sym o ∙ e)
 
 -- while a PDO is on its type cannot be written
-pub type-kept : (index : ℕ) (p : Pdo) (key n : ℕ) → pdoBarred index p key n ≡ false → on (p .identifier) ≡ true → eqb key (keyOf index 2) ≡ false
+pub type-kept : (index : ℕ) (p : Pdo) (key n : ℕ) → pdoBarred index p key n ≡ false → on (p .identifier) ≡ true
+    → eqb key (keyOf index 2) ≡ false
 type-kept index p key n free was =
     let held = p .identifier in
     let sub2 = eqb key (keyOf index 2) in

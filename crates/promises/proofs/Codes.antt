@@ -1,40 +1,41 @@
 -- `Codes` of specs/Codes.antt.
-use Prim.Native.Nat.{ℕ, _+_, _<_}
+use Prim.Native.Nat.{ℕ, _+_}
 use native.Mathlib.Omega.{arith}
 use lib.Dec.{eqb, ltb}
-use mathlib.Core.Path.{_≡_, refl, sym, ap, subst, _∙_}
+use mathlib.Core.Path.{_≡_, refl, sym, ap, ap₂, subst, _∙_}
 use mathlib.Core.Bool.{Bool, true, false, not, _&&_, _||_}
 use mathlib.Core.List.{List, [], _∷_}
 use mathlib.Core.Option.{some}
 use borrow.Author.Tests.{eqb-true, not-true}
 use Rattle.cases.specs.Cases.{firstOf}
-use Rattle.cases.proofs.Cases.{by, by₂, test, both, neither, true-false}
+use Rattle.cases.proofs.Cases.{by, by₂, both, neither, true-false}
 use Rattle.can.specs.declared.Received.{Received}
 use Rattle.can.specs.declared.Frame.{Frame}
+use Rattle.position.specs.Profile.{highestRaw}
 use Rattle.entries.specs.Table.{entries, table, lookup}
 use Rattle.dictionary.specs.declared.read.Shown.the-variants.{Number}
 use Rattle.dictionary.specs.Reads.{shownAt}
-use Rattle.dictionary.specs.Writes.{written}
 use Rattle.dictionary.proofs.Laws.{shows}
-use Rattle.sdo.specs.Service.{due}
 use Rattle.waiting.specs.Line.{first}
 use Rattle.parts.specs.declared.Core.{Core}
 use Rattle.parts.specs.declared.Head.{Head}
 use Rattle.parts.specs.declared.Nmt.{Nmt}
 use Rattle.parts.specs.declared.Sensor.the-variants.{Missing, Raw}
-use Rattle.promises.specs.States.{Goal, operational, stopped, preOperational, code, isIn, isInitialising, node, Command, toEnter, toReset, noCommand, command, byteOf, communication, Which, one, two, pdo}
-use Rattle.promises.specs.WaitingLine.{Kind, emergency, sdoReply, heartbeat, tpdo, number, kindOf, frame, frameOf}
-use Rattle.promises.specs.Acts.{Act, nothing, enter, reset, boot, idle, send, take, lose, time, sync, serve, acted, settledTo, act}
+use Rattle.promises.specs.States.{CommandedState, operational, stopped, preOperational, code, isIn, isInitialising, node, Command}
+use Rattle.promises.specs.States.{toEnter, toReset, noCommand, command, byteOf, communication, PdoNumber, one, two, pdo}
+use Rattle.promises.specs.WaitingLine.{Kind, emergency, sdoReply, heartbeat, tpdo, frame, frameOf}
+use Rattle.promises.specs.Acts.{Act, nothing, enter, reset, boot, idle, send, take, lose, time, sync, serve, acted}
 use Rattle.promises.specs.Calls.{Call, receive, tick, sample, slot, commanded, meant, step, slotted}
 use Rattle.promises.specs.Valid.{Valid}
 use Rattle.promises.specs.Meant.{Commands, not-booted}
 use Rattle.promises.specs.Histories.{after, PowerUp, powered}
 use Rattle.promises.specs.Readings.{readsIn}
 use Rattle.promises.specs.Gap.{nodeOf}
-use Rattle.promises.specs.Codes.{says, codeBy, codeFrom, codeAfter, IsSaid, parameters, IsFirst, Codes, CodesMet}
+use Rattle.promises.specs.Codes.{says, codeBy, codeFrom, codeAfter, IsSaid, parameters, IsFirst, Codes}
+use Rattle.promises.proofs.KindNumbers.{sent-as}
 use Rattle.promises.proofs.Valid.{valid-step}
 use Rattle.promises.proofs.Unmeant.{not-meant}
-use Rattle.promises.proofs.Slots.{answers, none-waits, sends-first}
+use Rattle.promises.proofs.Slots.{answers, awake, sends-first}
 use Rattle.promises.proofs.Meant.{core-step, commands}
 use Rattle.promises.proofs.Causes.{Cause, cause}
 use Rattle.promises.proofs.NetworkStates.{network-states}
@@ -45,16 +46,26 @@ use Rattle.promises.proofs.Spoken.{commands-so}
 abbrev codeOf : Core → ℕ
 codeOf c = c .nmt .code
 
+-- the code after a command of first byte b, if it is to the head; x before it
+abbrev codeSaid : Bool → ℕ → ℕ → ℕ
+codeSaid to b x =
+    firstOf (
+    (to && eqb b 0x01, 0x05) ∷
+    (to && eqb b 0x02, 0x04) ∷
+    (to && eqb b 0x80, 0x7F) ∷
+    (to && eqb b 0x81, 0x00) ∷
+    (to && eqb b 0x82, 0x00) ∷ [])
+    x
+
 -- the code of the state that a command's first byte enters
 module _ (c : Core) where
   abbrev Enters : Command → ℕ → Type 0
   Enters k x = codeOf (acted c (commanded c k)) ≡ x
 
-  enters : (g : Goal) → Enters (toEnter g) (code g)
+  enters : (g : CommandedState) → Enters (toEnter g) (code g)
   enters g = by (λ a. codeOf (acted c a) ≡ code g) (isIn g c) (λ e. eqb-true (codeOf c) (code g) e) (λ _. refl)
 
-  says-code : (b : ℕ)
-      → Enters (command b) (firstOf ((eqb b 0x01, 0x05) ∷ (eqb b 0x02, 0x04) ∷ (eqb b 0x80, 0x7F) ∷ (eqb b 0x81, 0x00) ∷ (eqb b 0x82, 0x00) ∷ []) (codeOf c))
+  says-code : (b : ℕ) → Enters (command b) (codeSaid true b (codeOf c))
   says-code b =
       by₂ Enters (eqb b 0x01) (λ _. enters operational)
       (λ _. by₂ Enters (eqb b 0x02) (λ _. enters stopped)
@@ -63,10 +74,7 @@ module _ (c : Core) where
       (λ _. by₂ Enters (eqb b 0x82) (λ _. refl) (λ _. refl)))))
 
 -- what follows where the test `to` passes and where it fails
-by-tests : (to : Bool) (b x y : ℕ)
-    → (to ≡ true → y ≡ firstOf ((eqb b 0x01, 0x05) ∷ (eqb b 0x02, 0x04) ∷ (eqb b 0x80, 0x7F) ∷ (eqb b 0x81, 0x00) ∷ (eqb b 0x82, 0x00) ∷ []) x)
-    → (to ≡ false → y ≡ x)
-    → y ≡ firstOf ((to && eqb b 0x01, 0x05) ∷ (to && eqb b 0x02, 0x04) ∷ (to && eqb b 0x80, 0x7F) ∷ (to && eqb b 0x81, 0x00) ∷ (to && eqb b 0x82, 0x00) ∷ []) x
+by-tests : (to : Bool) (b x y : ℕ) → (to ≡ true → y ≡ codeSaid true b x) → (to ≡ false → y ≡ x) → y ≡ codeSaid to b x
 by-tests true b x y f g = f refl
 by-tests false b x y f g = g refl
 
@@ -76,7 +84,8 @@ module _ (n : ℕ) (h : Head) (q : node (h .core) ≡ n) (v : Valid h) where
 
   -- a command to node n, whatever it says
   abbrev addressed : Received → Bool
-  addressed f = not (f .extended || f .remote) && eqb (f .identifier) 0x000 && eqb (f .length) 2 && (eqb (byteOf f 1) 0 || eqb (byteOf f 1) n)
+  addressed f =
+      not (f .extended || f .remote) && eqb (f .identifier) 0x000 && eqb (f .length) 2 && (eqb (byteOf f 1) 0 || eqb (byteOf f 1) n)
 
   -- is one that the head hears,
   commands-heard : (f : Received) → isInitialising c ≡ false → addressed f ≡ true → Commands h f (command (byteOf f 0))
@@ -131,7 +140,8 @@ module _ (n : ℕ) (h : Head) (q : node (h .core) ≡ n) (v : Valid h) where
   code-heard : (f : Received) → Leaves (codeBy n (codeOf c) (receive f)) (meant h (receive f))
   code-heard f =
       by (λ x. Leaves x (meant h (receive f))) (isInitialising c)
-      (λ i. ap codeOf (sym (core-step h (receive f)) ∙ ap (λ (m : Head). m .core) (not-meant h f v (not-booted i))) ∙ eqb-true (codeOf c) 0x00 i)
+      (λ i. ap codeOf (sym (core-step h (receive f)) ∙ ap (λ (m : Head). m .core) (not-meant h f v (not-booted i))) ∙ eqb-true (codeOf c)
+      0x00 i)
       (λ i. by-tests (addressed f) (byteOf f 0) (codeOf c) _
       (λ e. ap (λ a. codeOf (acted c a)) (commands h f (commands-heard f i e)) ∙ says-code c (byteOf f 0))
       (λ e. unaddressed f (meant h (receive f)) e (cause h f v)))
@@ -140,15 +150,16 @@ module _ (n : ℕ) (h : Head) (q : node (h .core) ≡ n) (v : Valid h) where
   code-act (receive f) = code-heard f
   code-act tick = by (Leaves (codeOf c)) (isInitialising c) (λ _. refl) (λ _. refl)
   code-act (sample Missing) = refl
-  code-act (sample (Raw r)) = by (Leaves (codeOf c)) (ltb 1048575 r) (λ _. refl) (λ _. refl)
+  code-act (sample (Raw r)) = by (Leaves (codeOf c)) (ltb highestRaw r) (λ _. refl) (λ _. refl)
   code-act slot =
       by₂ (λ a x. Leaves x a) (isInitialising c) (λ _. refl)
-      (λ _. by (Leaves (codeOf c)) (eqb (first (h .line)) 0) (λ _. refl) (λ _. code-sent (kindOf (first (h .line)))))
+      (λ _. sent-as (Leaves (codeOf c)) (first (h .line)) refl code-sent)
 
   code-step : (x : Call) → codeOf (step h x .core) ≡ codeBy n (codeOf c) x
   code-step x = ap codeOf (core-step h x) ∙ code-act x
 
-code-after : (n : ℕ) (cs : List Call) (h : Head) (x : ℕ) → node (h .core) ≡ n → Valid h → codeOf (h .core) ≡ x → codeOf (after h cs .core) ≡ codeFrom n x cs
+code-after : (n : ℕ) (cs : List Call) (h : Head) (x : ℕ) → node (h .core) ≡ n → Valid h → codeOf (h .core) ≡ x
+    → codeOf (after h cs .core) ≡ codeFrom n x cs
 code-after n [] h x q v e = e
 code-after n (y ∷ cs) h x q v e =
     code-after n cs (step h y) (codeBy n x y) (node-step h v y ∙ q) (valid-step h y v) (code-step n h q v y ∙ ap (λ z. codeBy n z y) e)
@@ -158,19 +169,11 @@ code-is p cs =
     code-after (nodeOf p) cs (powered p) 0x00 (node-powered p) (valid-powered p) (ap (λ (s : Nmt). s .code) (network-states .starts p))
 
 module _ (h : Head) (v : Valid h) where
-  -- in Initialising no kind waits
-  not-first : (k : Kind) → 0 < number k → IsFirst k h → isInitialising (h .core) ≡ false
-  not-first k l e = test (isInitialising (h .core)) (λ i. absurd (omega (arith, l, sym (ap first (none-waits h v i)) ∙ e))) (λ i. i)
-
-  sends : (k : Kind) → 0 < number k → IsFirst k h → (slotted h .waited ≡ true) × (slotted h .frame ≡ frameOf (h .core) k)
-  sends k l e = answers h (sends-first h v (not-first k l e) k e)
-
-  sends-pdo : (w : Which) → IsFirst (tpdo w) h → (slotted h .waited ≡ true) × (slotted h .frame ≡ frameOf (h .core) (tpdo w))
-  sends-pdo one = sends (tpdo one) (omega arith)
-  sends-pdo two = sends (tpdo two) (omega arith)
+  sends : (k : Kind) → IsFirst k h → (slotted h .waited ≡ true) × (slotted h .frame ≡ frameOf (h .core) k)
+  sends k e = answers h (sends-first h v (awake h v k e) k e)
 
 -- 1800-1 and 1801-1
-identifier-read : (h : Head) (w : Which) → readsIn h (parameters w) 1 ≡ some (Number (pdo (communication (h .core)) w .identifier))
+identifier-read : (h : Head) (w : PdoNumber) → readsIn h (parameters w) 1 ≡ some (Number (pdo (communication (h .core)) w .identifier))
 unfolding entries table lookup shownAt
 identifier-read h one = shows (h .core .device) (isIn operational (h .core)) 0x1800 1 refl refl
 identifier-read h two = shows (h .core .device) (isIn operational (h .core)) 0x1801 1 refl refl
@@ -182,12 +185,13 @@ codes =
       said = (said 0x01, (said 0x02, (said 0x80, (said 0x81, (said 0x82, tt)))));
       beats = λ p cs e.
           let h : Head = after (powered p) cs in
-          let s = sends h (valid p cs) heartbeat (omega arith) e in
-          (s .0, s .1 ∙ ap (λ n. frame (0x700 + n) 1 (codeOf (h .core) ∷ [])) (its-node p cs) ∙ ap (λ x. frame (0x700 + nodeOf p) 1 (x ∷ [])) (code-is p cs));
+          let s = sends h (valid p cs) heartbeat e in
+          (s .0, s .1 ∙ ap₂ (λ n x. frame (0x700 + n) 1 (x ∷ [])) (its-node p cs) (code-is p cs));
       shows = λ p cs w e.
           let h : Head = after (powered p) cs in
-          let s = sends-pdo h (valid p cs) w e in
-          (s .0, ap (λ (f : Frame). f .length) (s .1), identifier-read h w ∙ ap (λ (f : Frame). some (Number (f .identifier))) (sym (s .1)));
+          let s = sends h (valid p cs) (tpdo w) e in
+          let read = identifier-read h w ∙ ap (λ (f : Frame). some (Number (f .identifier))) (sym (s .1)) in
+          (s .0, ap (λ (f : Frame). f .length) (s .1), read);
     }
   where
     valid : (p : PowerUp) (cs : List Call) → Valid (after (powered p) cs)
@@ -198,19 +202,3 @@ codes =
 
     said : (b : ℕ) → IsSaid (b, command b)
     said b p cs f = says-byte (nodeOf p) (after (powered p) cs) (its-node p cs) (valid p cs) f b
-
-pub codes-met : CodesMet
-unfolding entries table lookup shownAt written due act settledTo
-codes-met =
-    record {
-      pre-operational = record { is-first = refl; its-code = refl; sent = refl };
-      operational = record { is-first = refl; its-code = refl; sent = refl };
-      stopped = record { is-first = refl; its-code = refl; sent = refl };
-      again = record { is-first = refl; its-code = refl; sent = refl };
-      is-booted = refl;
-      is-said = refl;
-      reset = refl;
-      booted = refl;
-      tpdo1 = record { is-first = refl; sent = refl };
-      tpdo2 = record { is-first = refl; sent = refl };
-    }

@@ -6,12 +6,13 @@ use mathlib.Core.List.{List}
 use mathlib.Core.Bool.{Bool, true, not, _&&_, Bool·beq, cond, Bool·not-not, and-true}
 use borrow.Author.Tests.{eqb-true}
 use Rattle.cases.proofs.Cases.{both, test}
+use Rattle.entries.specs.Keys.{identifierKeyOf, tpdo1, cycleKey, emergencyKey, heartbeatKey}
 use Rattle.dictionary.specs.Accepted.{on}
 use Rattle.dictionary.specs.Writes.{ownKey, written}
 use Rattle.sdo.specs.Reply.{confirmed}
 use Rattle.parts.specs.declared.Core.{Core}
-use Rattle.promises.specs.States.{operational, isIn, isInitialising, isLive, good, communication, Which, one, two, pdo}
-use Rattle.promises.specs.WaitingLine.{Kind, emergency, sdoReply, heartbeat, tpdo, may, mayAlert, mayBeat, mayShow}
+use Rattle.promises.specs.States.{operational, isIn, isInitialising, isLive, good, communication, PdoNumber, one, two, pdo}
+use Rattle.promises.specs.WaitingLine.{Kind, emergency, sdoReply, heartbeat, tpdo, isAlerting, mayStay, mayAlert, mayBeat, mayShow}
 use Rattle.promises.specs.Acts.{serve, acted}
 use Rattle.promises.specs.Withdrawals.{identifierKey}
 use Rattle.promises.specs.Effects.{takes}
@@ -26,61 +27,67 @@ pub record Alerts (c : Core) : Type 0 where
 abbrev pub alerting : Core → Bool
 alerting c = isLive c && on (communication c .emergency) && eqb (c .timers .inhibit) 0
 
-pub alerts : (c : Core) → may c emergency ≡ true → Alerts c
+pub alerts : (c : Core) → isAlerting c ≡ true → Alerts c
 alerts c y =
     let u = both (alerting c) (not (Bool·beq (good c) (c .announced))) y in
     let t = both (isLive c && on (communication c .emergency)) (eqb (c .timers .inhibit) 0) (u .0) in
     let s = both (isLive c) (on (communication c .emergency)) (t .0) in
     record { lives = s .0; is-on = s .1; rested = t .1; differs = u .1 }
 
-pub beats : (c : Core) → may c heartbeat ≡ true → (not (isInitialising c) ≡ true) × (not (eqb (communication c .heartbeat) 0) ≡ true)
+pub beats : (c : Core) → mayBeat (c .nmt) (communication c .heartbeat) ≡ true
+    → (not (isInitialising c) ≡ true) × (not (eqb (communication c .heartbeat) 0) ≡ true)
 beats c = both (not (isInitialising c)) (not (eqb (communication c .heartbeat) 0))
 
-pub record Shows (c : Core) (w : Which) : Type 0 where
+pub record Shows (c : Core) (w : PdoNumber) : Type 0 where
   pub operates : isIn operational c ≡ true
   pub is-on : on (pdo (communication c) w .identifier) ≡ true
   pub is-good : good c ≡ true
 
-pub shows : (c : Core) (w : Which) → may c (tpdo w) ≡ true → Shows c w
+pub shows : (c : Core) (w : PdoNumber) → mayShow (c .nmt) (pdo (communication c) w .identifier) (good c) ≡ true → Shows c w
 shows c w y =
     let u = both (isIn operational c && on (pdo (communication c) w .identifier)) (good c) y in
     let t = both (isIn operational c) (on (pdo (communication c) w .identifier)) (u .0) in
     record { operates = t .0; is-on = t .1; is-good = u .1 }
 
 -- 6200h is 1800-5, and no identifier
-pub own-identifier : (k : ℕ) → eqb (ownKey k) 0x1800_01 ≡ eqb k 0x1800_01
-own-identifier k = test (eqb k 0x6200_00) (λ e. rw (eqb-true k 0x6200_00 e)) (λ e. rw e)
+pub own-identifier : (k : ℕ) → eqb (ownKey k) (identifierKeyOf tpdo1) ≡ eqb k (identifierKeyOf tpdo1)
+own-identifier k = test (eqb k cycleKey) (λ e. rw (eqb-true k cycleKey e)) (λ e. rw e)
 
 -- A write of v to the entry of key k: 1014h alters the emergency's condition, 1017h the heartbeat's, a PDO's sub 1 that of the PDO.
 module _ (c : Core) (f : List ℕ) (k v : ℕ) where
-  pub alert-written : may (acted c (serve (confirmed f k v))) emergency
-      ≡ mayAlert (c .nmt) (cond (eqb k 0x1014_00) v (communication c .emergency)) (c .timers .inhibit) (good c) (c .announced)
+  pub alert-written : mayStay (acted c (serve (confirmed f k v))) emergency
+      ≡ mayAlert (c .nmt) (cond (eqb k emergencyKey) v (communication c .emergency)) (c .timers .inhibit) (good c) (c .announced)
   unfolding written
   alert-written = refl
 
-  pub beat-written : may (acted c (serve (confirmed f k v))) heartbeat ≡ mayBeat (c .nmt) (cond (eqb k 0x1017_00) v (communication c .heartbeat))
+  pub beat-written : mayStay (acted c (serve (confirmed f k v))) heartbeat
+      ≡ mayBeat (c .nmt) (cond (eqb k heartbeatKey) v (communication c .heartbeat))
   unfolding written
   beat-written = refl
 
-  pub show-written : (w : Which)
-      → may (acted c (serve (confirmed f k v))) (tpdo w) ≡ mayShow (c .nmt) (cond (eqb k (identifierKey w)) v (pdo (communication c) w .identifier)) (good c)
+  pub show-written : (w : PdoNumber)
+      → mayStay (acted c (serve (confirmed f k v))) (tpdo w)
+      ≡ mayShow (c .nmt) (cond (eqb k (identifierKey w)) v (pdo (communication c) w .identifier)) (good c)
   unfolding written
   show-written one = rw (own-identifier k)
   show-written two = refl
 
 -- A write of v ends a condition exactly if it is that of its setting and v does; t: it is.
 module _ (c : Core) (t : Bool) (v : ℕ) where
-  alert-ends : may c emergency ≡ true → not (mayAlert (c .nmt) (cond t v (communication c .emergency)) (c .timers .inhibit) (good c) (c .announced)) ≡ (t && not (on v))
+  alert-ends : mayStay c emergency ≡ true
+      → not (mayAlert (c .nmt) (cond t v (communication c .emergency)) (c .timers .inhibit) (good c) (c .announced)) ≡ (t && not (on v))
   alert-ends m = let s = alerts c m in test t (λ e. rw (e, s .lives, s .rested, s .differs) (simp and-true)) (λ e. rw e (ap not m))
 
-  beat-ends : may c heartbeat ≡ true → not (mayBeat (c .nmt) (cond t v (communication c .heartbeat))) ≡ (t && eqb v 0)
+  beat-ends : mayStay c heartbeat ≡ true → not (mayBeat (c .nmt) (cond t v (communication c .heartbeat))) ≡ (t && eqb v 0)
   beat-ends m = test t (λ e. rw (e, beats c m .0) (Bool·not-not (eqb v 0))) (λ e. rw e (ap not m))
 
-  show-ends : (w : Which) → may c (tpdo w) ≡ true → not (mayShow (c .nmt) (cond t v (pdo (communication c) w .identifier)) (good c)) ≡ (t && not (on v))
+  show-ends : (w : PdoNumber) → mayStay c (tpdo w) ≡ true
+      → not (mayShow (c .nmt) (cond t v (pdo (communication c) w .identifier)) (good c)) ≡ (t && not (on v))
   show-ends w m = let s = shows c w m in test t (λ e. rw (e, s .operates, s .is-good) (simp and-true)) (λ e. rw e (ap not m))
 
-pub ends : (c : Core) (f : List ℕ) (k v : ℕ) (x : Kind) → may c x ≡ true → not (may (acted c (serve (confirmed f k v))) x) ≡ takes k v x
-ends c f k v emergency m = ap not (alert-written c f k v) ∙ alert-ends c (eqb k 0x1014_00) v m
+pub ends : (c : Core) (f : List ℕ) (k v : ℕ) (x : Kind) → mayStay c x ≡ true
+    → not (mayStay (acted c (serve (confirmed f k v))) x) ≡ takes k v x
+ends c f k v emergency m = ap not (alert-written c f k v) ∙ alert-ends c (eqb k emergencyKey) v m
 ends c f k v sdoReply m = ap not m
-ends c f k v heartbeat m = ap not (beat-written c f k v) ∙ beat-ends c (eqb k 0x1017_00) v m
+ends c f k v heartbeat m = ap not (beat-written c f k v) ∙ beat-ends c (eqb k heartbeatKey) v m
 ends c f k v (tpdo w) m = ap not (show-written c f k v w) ∙ show-ends c (eqb k (identifierKey w)) v w m

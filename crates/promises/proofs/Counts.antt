@@ -12,6 +12,7 @@ use Rattle.entries.specs.declared.Pdo.{Pdo}
 use Rattle.entries.specs.declared.Communication.{Communication}
 use Rattle.entries.specs.declared.table.Found.{Found}
 use Rattle.entries.specs.Table.{missing, rowAt}
+use Rattle.entries.specs.Keys.{cycleKey, eventKeyOf, tpdo1, rangeKey, presetKey, stepKey, heartbeatKey}
 use Rattle.dictionary.specs.Accepted.{pdoBarred, barred}
 use Rattle.dictionary.specs.Writes.{ownKey, written}
 use Rattle.dictionary.specs.Valid.{ValidDevice}
@@ -24,7 +25,7 @@ use Rattle.sdo.specs.Laws.{Told, Confirmed}
 use Rattle.sdo.proofs.Laws.{laws}
 use Rattle.parts.specs.declared.Timers.{Timers}
 use Rattle.parts.specs.declared.Core.{Core}
-use Rattle.promises.specs.States.{operational, isIn, communication, Which, one, two, pdo, clock, atRest}
+use Rattle.promises.specs.States.{operational, isIn, communication, PdoNumber, one, two, pdo, clock, atRest}
 use Rattle.promises.specs.WaitingLine.{emergency, sdoReply, heartbeat, tpdo}
 use Rattle.promises.specs.Timers.{inhibitTicks}
 use Rattle.promises.specs.Acts.{Act, nothing, enter, reset, boot, idle, send, take, lose, time, sync, serve, timersAfter, acted}
@@ -32,10 +33,11 @@ use Rattle.promises.specs.Valid.{Below, ValidClock, ValidTimers}
 use Rattle.promises.proofs.Fits.{Fits}
 use Rattle.promises.proofs.Clocks.{below-counted, uncounted-valid, ticked-valid, synced-valid, written-valid}
 
-timers-are : {s : Communication} {t : Timers} → t .inhibit ≤ 6555 → Below (s .heartbeat) (t .heartbeat) → ValidClock (s .pdo1) (t .pdo1) → ValidClock (s .pdo2) (t .pdo2) → ValidTimers s t
+timers-are : {s : Communication} {t : Timers} → t .inhibit ≤ 6555 → Below (s .heartbeat) (t .heartbeat) → ValidClock (s .pdo1) (t .pdo1)
+    → ValidClock (s .pdo2) (t .pdo2) → ValidTimers s t
 timers-are {s} {t} i b p q = record { inhibit = i; heartbeat = b; clocks = both-valid }
   where
-    both-valid : (w : Which) → ValidClock (pdo s w) (clock t w)
+    both-valid : (w : PdoNumber) → ValidClock (pdo s w) (clock t w)
     both-valid one = p
     both-valid two = q
 
@@ -46,40 +48,47 @@ inhibit-ticks : (n : ℕ) → n ≤ 0xFFFF → inhibitTicks n ≤ 6555
 inhibit-ticks n h = by (λ t. t ≤ 6555) (eqb n 0) (λ _. omega arith) (λ _. omega arith)
 
 -- 6200h is 1800-5 under a second index
-pub own-key : (k : ℕ) → eqb (ownKey k) 0x1800_05 ≡ (eqb k 0x1800_05 || eqb k 0x6200_00)
-own-key k = test (eqb k 0x6200_00) (λ e. rw e (sym (or-true (eqb k 0x1800_05)))) (λ e. rw e (sym (or-false (eqb k 0x1800_05))))
+pub own-key : (k : ℕ) → eqb (ownKey k) (eventKeyOf tpdo1) ≡ (eqb k (eventKeyOf tpdo1) || eqb k cycleKey)
+own-key k =
+    test (eqb k cycleKey) (λ e. rw e (sym (or-true (eqb k (eventKeyOf tpdo1))))) (λ e. rw e (sym (or-false (eqb k (eventKeyOf tpdo1)))))
 
 pub own-free : (p : Pdo) (k n : ℕ) → pdoBarred 0x1800 p k n ≡ false → pdoBarred 0x1800 p (ownKey k) n ≡ false
-own-free p k n free = by (λ j. pdoBarred 0x1800 p j n ≡ false) (eqb k 0x6200_00) (λ _. refl) (λ _. free)
+own-free p k n free = by (λ j. pdoBarred 0x1800 p j n ≡ false) (eqb k cycleKey) (λ _. refl) (λ _. free)
 
 -- 1800h, 1801h
-abbrev pub pdoIndex : Which → ℕ
+abbrev pub pdoIndex : PdoNumber → ℕ
 pdoIndex one = 0x1800
 pdoIndex two = 0x1801
 
 -- a write that is confirmed is barred by neither PDO
-pub free : (d : Device) (k n : ℕ) → barred d k n ≡ false → (w : Which) → pdoBarred (pdoIndex w) (pdo (d .settings .communication) w) k n ≡ false
+pub free : (d : Device) (k n : ℕ) → barred d k n ≡ false → (w : PdoNumber)
+    → pdoBarred (pdoIndex w) (pdo (d .settings .communication) w) k n ≡ false
 free d k n e = each
   where
     others : Bool
-    others = (eqb k 0x6002_00 || eqb k 0x6005_01) && not (bit scalingBit (d .settings .profile .operating)) || eqb k 0x6003_00 && missing d
+    others = (eqb k rangeKey || eqb k stepKey) && not (bit scalingBit (d .settings .profile .operating)) || eqb k presetKey && missing d
 
-    apart : (others || pdoBarred 0x1800 (d .settings .communication .pdo1) k n ≡ false) × (pdoBarred 0x1801 (d .settings .communication .pdo2) k n ≡ false)
-    apart = neither (others || pdoBarred 0x1800 (d .settings .communication .pdo1) k n) (pdoBarred 0x1801 (d .settings .communication .pdo2) k n) e
+    apart : (others || pdoBarred 0x1800 (d .settings .communication .pdo1) k n ≡ false)
+        × (pdoBarred 0x1801 (d .settings .communication .pdo2) k n ≡ false)
+    apart =
+        neither (others || pdoBarred 0x1800 (d .settings .communication .pdo1) k n)
+        (pdoBarred 0x1801 (d .settings .communication .pdo2) k n) e
 
-    each : (w : Which) → pdoBarred (pdoIndex w) (pdo (d .settings .communication) w) k n ≡ false
+    each : (w : PdoNumber) → pdoBarred (pdoIndex w) (pdo (d .settings .communication) w) k n ≡ false
     each one = neither others (pdoBarred 0x1800 (d .settings .communication .pdo1) k n) (apart .0) .1
     each two = apart .1
 
 pub unbarred : {d : Device} {f : List ℕ} {x : Found} {k n : ℕ} → Confirmed d f x k n → barred d k n ≡ false
-unbarred {d} {n = n} t = rw (t .key) (taken d (rowAt (t .place)) n (t .takes .unrefused) .1)
+unbarred {d} {n = n} t = rw (t .key) (taken d (rowAt (t .place)) n (t .takes .unaborted) .1)
 
 module _ (c : Core) (v : ValidTimers (communication c) (c .timers)) where
-  write-valid : (k n : ℕ) → barred (c .device) k n ≡ false → ValidTimers (carriedOut (c .device) (Write k n) .settings .communication) (timersAfter c (Write k n))
+  write-valid : (k n : ℕ) → barred (c .device) k n ≡ false
+      → ValidTimers (carriedOut (c .device) (Write k n) .settings .communication) (timersAfter c (Write k n))
   unfolding written
   write-valid k n e =
-      timers-are (v .inhibit) (by₂ Below (eqb k 0x1017_00) (λ _. inl refl) (λ _. v .heartbeat))
-      (rw (← own-key k) (written-valid (v .clocks one) 0x1800 (ownKey k) n (own-free (communication c .pdo1) k n (free (c .device) k n e one))))
+      timers-are (v .inhibit) (by₂ Below (eqb k heartbeatKey) (λ _. inl refl) (λ _. v .heartbeat))
+      (rw (← own-key k) (written-valid (v .clocks one) 0x1800 (ownKey k) n
+      (own-free (communication c .pdo1) k n (free (c .device) k n e one))))
       (written-valid (v .clocks two) 0x1801 k n (free (c .device) k n e two))
 
   told-valid : (o : Bool) (f : List ℕ) (x : Found) (y : Due) → Told (c .device) o f x y
@@ -89,7 +98,8 @@ module _ (c : Core) (v : ValidTimers (communication c) (c .timers)) where
   told-valid o f x (confirmation k n) t = write-valid k n (unbarred t)
   told-valid o f x (abort code) t = v
 
-  pub timers-act : (atSlot : Bool) (a : Act) → Fits atSlot c a → ValidDevice (c .device) → ValidTimers (communication (acted c a)) (acted c a .timers)
+  pub timers-act : (atSlot : Bool) (a : Act) → Fits atSlot c a → ValidDevice (c .device)
+      → ValidTimers (communication (acted c a)) (acted c a .timers)
   timers-act b nothing f d = v
   timers-act b (enter g) f d = timers-are (v .inhibit) (v .heartbeat) (uncounted-valid _) (uncounted-valid _)
   timers-act b (reset r) f d = resting _

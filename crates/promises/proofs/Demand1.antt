@@ -18,6 +18,7 @@ use Rattle.sdo.proofs.Laws.{laws as sdo-laws}
 use Rattle.waiting.specs.Line as line
 use Rattle.waiting.specs.Line.{has}
 use Rattle.parts.specs.declared.Head.{Head}
+use Rattle.position.specs.Profile.{highestRaw}
 use Rattle.promises.specs.States.{operational, isIn, isLive, node, Command, noCommand, toEnter, toReset, commandOf}
 use Rattle.promises.specs.Acts.{Act, nothing}
 use Rattle.promises.specs.Calls.{receive, step, commanded, meant, received}
@@ -26,7 +27,8 @@ use Rattle.promises.specs.Meant.{Heard, Requests, MeantFor, to-enter, to
 use Rattle.promises.specs.Histories.{powered}
 use Rattle.promises.specs.Demand1.{BadIdentifier, BadNode, Demand1}
 use Rattle.promises.proofs.Nothing.{step-nothing}
-use Rattle.promises.proofs.Refusals.{passes, fails, first-passes, second-passes, neither-passes, power-refusal, frame-refused, sample-refused, node-refused, node-taken}
+use Rattle.promises.proofs.Refusals.{passes, fails, first-passes, second-passes, neither-passes, power-refusal}
+use Rattle.promises.proofs.Refusals.{frame-refused, sample-refused, node-refused, node-taken}
 use Rattle.promises.proofs.Hearing.{heard-by}
 use Rattle.promises.proofs.Unmeant.{not-meant}
 use Rattle.promises.proofs.Causes.{by-request, by-sync}
@@ -82,11 +84,13 @@ module _ (h : Head) (f : Received) (v : Valid h) where
 
   as-command : (x : Heard h f) → f .identifier ≡ 0x000 → (k : Command) → commandOf (node (h .core)) f ≡ k → Due (commanded (h .core) k)
   as-command x i noCommand e = inr refl
-  as-command x i (toEnter g) e = by Due (isIn g (h .core)) (λ _. inr refl) (λ n. inl (to-enter g (record { hears = x; identifier = i; says = e }) n))
+  as-command x i (toEnter g) e =
+      by Due (isIn g (h .core)) (λ _. inr refl) (λ n. inl (to-enter g (record { hears = x; identifier = i; says = e }) n))
   as-command x i (toReset r) e = inl (to-reset r (record { hears = x; identifier = i; says = e }))
 
   as-request : Requests h f → replies (answer (f .bytes) (dueTo h f) .effect) ≡ true → MeantFor h f
-  as-request r t = to-serve r (not-true (aborting (f .bytes)) (sym (sdo-laws (h .core .device) (isIn operational (h .core)) (f .bytes) .replied) ∙ t))
+  as-request r t =
+      to-serve r (not-true (aborting (f .bytes)) (sym (sdo-laws (h .core .device) (isIn operational (h .core)) (f .bytes) .replied) ∙ t))
 
   means : Due (meant h (receive f))
   means =
@@ -111,12 +115,18 @@ demand1 =
           };
       valid = valid-reachable;
       gives-1 = λ h f. ↔-then (first-passes 1 2 0 refl refl refl (badIdentifier f) (badLength f)) (bad-identifier f);
-      gives-2 = λ h f. ↔-then (second-passes 1 2 0 refl refl refl (badIdentifier f) (badLength f)) (↔-both (↔-not (badIdentifier f) (bad-identifier f)) (ltb-tests 8 (f .length)));
-      takes-frame = λ h f. ↔-then (neither-passes 1 2 0 refl refl refl (badIdentifier f) (badLength f)) (↔-both (↔-not (badIdentifier f) (bad-identifier f)) (ltb-fails 8 (f .length)));
-      gives-3 = λ h r. ↔-then (passes 3 0 refl (ltb 1048575 r)) (ltb-tests 1048575 r);
-      takes-sample = λ h r. ↔-then (fails 3 0 refl (ltb 1048575 r)) (ltb-fails 1048575 r);
+      gives-2 =
+          λ h f. ↔-then (second-passes 1 2 0 refl refl refl (badIdentifier f) (badLength f))
+          (↔-both (↔-not (badIdentifier f) (bad-identifier f)) (ltb-tests 8 (f .length)));
+      takes-frame =
+          λ h f. ↔-then (neither-passes 1 2 0 refl refl refl (badIdentifier f) (badLength f))
+          (↔-both (↔-not (badIdentifier f) (bad-identifier f)) (ltb-fails 8 (f .length)));
+      gives-3 = λ h r. ↔-then (passes 3 0 refl (ltb highestRaw r)) (ltb-tests highestRaw r);
+      takes-sample = λ h r. ↔-then (fails 3 0 refl (ltb highestRaw r)) (ltb-fails highestRaw r);
       takes-missing = λ h. refl;
-      gives-4 = λ n i. rw (power-refusal n i) (↔-then (fails 0 4 refl (within 1 127 n)) (↔-then (↔-not (within 1 127 n) (node-tests n)) (bad-node n)));
+      gives-4 =
+          λ n i. rw (power-refusal n i)
+          (↔-then (fails 0 4 refl (within 1 127 n)) (↔-then (↔-not (within 1 127 n) (node-tests n)) (bad-node n)));
       takes-node = λ n i. rw (power-refusal n i) (↔-then (passes 0 4 refl (within 1 127 n)) (node-tests n));
       frame-refused = frame-refused;
       sample-refused = sample-refused;

@@ -6,6 +6,7 @@ use mathlib.Core.Path.{_≡_, refl}
 use mathlib.Core.Bool.{Bool, false, _&&_}
 use borrow.Author.Tests.{ltb-true}
 use Rattle.cases.proofs.Cases.{by, both, true-false}
+use Rattle.position.specs.Profile.{highestRaw}
 use Rattle.entries.specs.declared.Device.{Device}
 use Rattle.entries.specs.declared.Reading.{Reading}
 use Rattle.dictionary.specs.Valid.{ValidSettings, ValidDevice}
@@ -13,11 +14,12 @@ use Rattle.sdo.proofs.Laws.{laws}
 use Rattle.parts.specs.declared.Core.{Core}
 use Rattle.promises.specs.States.{operational, isIn, Reset, ofNode, ofCommunication, restored}
 use Rattle.promises.specs.WaitingLine.{emergency, sdoReply, heartbeat, tpdo}
-use Rattle.promises.specs.Acts.{Act, nothing, enter, reset, boot, idle, send, take, lose, time, sync, serve, sensed, resetTo, errorsAfter, acted}
+use Rattle.promises.specs.Acts.{Act, nothing, enter, reset, boot, idle, send, take, lose, time}
+use Rattle.promises.specs.Acts.{sync, serve, sensed, resetTo, errorsAfter, acted}
 use Rattle.promises.proofs.Fits.{Fits}
 
 module _ {d : Device} (v : ValidDevice d) where
-  sensed-valid : (r : Reading) (e : ℕ) → r .raw ≤ 1048575 → (r .good ≡ false → r .raw ≡ 0) → e ≤ 4 → ValidDevice (sensed d r e)
+  sensed-valid : (r : Reading) (e : ℕ) → r .raw ≤ highestRaw → (r .good ≡ false → r .raw ≡ 0) → e ≤ 4 → ValidDevice (sensed d r e)
   sensed-valid r e low blank few =
       record {
         node-low = v .node-low;
@@ -33,7 +35,8 @@ module _ {d : Device} (v : ValidDevice d) where
   few-errors : errorsAfter d ≤ 4
   few-errors =
       let one-less = ltb (d .errors) 4 in
-      by (λ n. n ≤ 4) (d .reading .good && one-less) (λ e. omega (arith, ltb-true (d .errors) 4 (both (d .reading .good) one-less e .1))) (λ _. v .errors)
+      by (λ n. n ≤ 4) (d .reading .good && one-less) (λ e. omega (arith, ltb-true (d .errors) 4 (both (d .reading .good) one-less e .1)))
+      (λ _. v .errors)
 
   restored-valid : (r : Reset) → ValidSettings (d .node) (restored r (d .settings) (d .saved))
   restored-valid ofNode = v .saved

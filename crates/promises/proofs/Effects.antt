@@ -1,38 +1,54 @@
 -- `ServedRightly` of specs/Effects.antt: what a served request does, by what is due to it.
 use Prim.Native.Nat.{ℕ}
+use lib.Dec.{eqb}
 use mathlib.Core.Path.{_≡_, refl, sym, ap, subst, _∙_}
 use mathlib.Core.Bool.{Bool, false}
-use mathlib.Core.List.{List}
-use mathlib.Core.Option.{some}
+use mathlib.Core.List.{List, [], _∷_, map}
+use mathlib.Core.Option.{Option, none, some}
+use borrow.Author.Tests.{eqb-false, ne-eqb}
+use Rattle.cases.proofs.Cases.{neither}
 use Rattle.can.specs.declared.Received.{Received}
 use Rattle.entries.specs.declared.Device.{Device}
 use Rattle.entries.specs.declared.table.Found.the-variants.{At}
 use Rattle.entries.specs.Table.{keyOf, lookup}
+use Rattle.dictionary.specs.declared.read.Shown.{Shown}
 use Rattle.dictionary.specs.declared.read.Shown.the-variants.{Number}
 use Rattle.dictionary.specs.Reads.{readOf, reads}
 use Rattle.dictionary.specs.Writes.{written}
+use Rattle.dictionary.specs.Effects.{given, effects, anew, readBack}
+use Rattle.dictionary.proofs.Effects.{effect-laws}
 use Rattle.sdo.specs.declared.reply.Effect.the-variants.{Reply}
 use Rattle.sdo.specs.Request.{indexOf, subOf}
 use Rattle.sdo.specs.Reply.{confirmed}
 use Rattle.sdo.specs.Service.{confirmation, answer}
 use Rattle.sdo.specs.Laws.{Confirmed, Told}
 use Rattle.sdo.proofs.Laws.{laws as sdo-laws}
+use Rattle.waiting.specs.Line.{has}
 use Rattle.parts.specs.declared.Head.{Head}
 use Rattle.promises.specs.States.{operational, isIn}
 use Rattle.promises.specs.Acts.{serve, settledTo, act}
 use Rattle.promises.specs.Calls.{receive, meant, received}
 use Rattle.promises.specs.Valid.{Valid}
 use Rattle.promises.specs.Meant.{Requests, dueTo}
-use Rattle.promises.specs.Effects.{effects, anew, readBack, OnlyReplied, Effects, Served, ServedRightly}
+use Rattle.promises.specs.Effects.{OnlyReplied, Effects, Served, ServedRightly}
 use Rattle.promises.proofs.Nothing.{step-nothing}
 use Rattle.promises.proofs.Causes.{means}
 use Rattle.promises.proofs.Histories.{valid-reachable}
-use Rattle.promises.proofs.Anew.{reads-after, own-after, untouched}
 use Rattle.promises.proofs.Restarts.{counts}
 use Rattle.promises.proofs.ReplyJoins.{only-reply, write-line, write-waits}
 
+pub untouched : (es : List (ℕ × Shown)) (k : ℕ) (x : Option Shown) → has k (map (λ e. e .0) es) ≡ false → anew es k x ≡ x
+untouched es k none h = refl
+untouched es k (some s) h = ap some (unnamed es h)
+  where
+    unnamed : (es : List (ℕ × Shown)) → has k (map (λ e. e .0) es) ≡ false → given es k s ≡ s
+    unnamed [] h = refl
+    unnamed (e ∷ es) h = let u = neither (eqb (e .0) k) (has k (map (λ e. e .0) es)) h in
+        rw (ne-eqb k (e .0) (λ q. eqb-false (e .0) k (u .0) (sym q))) (unnamed es (u .1))
+
 -- where an accepted write goes, and that it is taken there
-pub told : (h : Head) (f : Received) {k v : ℕ} → dueTo h f ≡ confirmation k v → Confirmed (h .core .device) (f .bytes) (lookup (indexOf (f .bytes)) (subOf (f .bytes))) k v
+pub told : (h : Head) (f : Received) {k v : ℕ} → dueTo h f ≡ confirmation k v
+    → Confirmed (h .core .device) (f .bytes) (lookup (indexOf (f .bytes)) (subOf (f .bytes))) k v
 told h f e =
     let d = h .core .device in
     let o = isIn operational (h .core) in
@@ -46,7 +62,8 @@ module _ (h : Head) (f : Received) (valid : Valid h) (r : Requests h f) where
   o = isIn operational (h .core)
 
   -- by a reply of these bytes, which has no other effect
-  replied : (bytes : List ℕ) → answer (f .bytes) (dueTo h f) .bytes ≡ bytes → meant h (receive f) ≡ serve (record { bytes = bytes; effect = Reply })
+  replied : (bytes : List ℕ) → answer (f .bytes) (dueTo h f) .bytes ≡ bytes
+      → meant h (receive f) ≡ serve (record { bytes = bytes; effect = Reply })
       → OnlyReplied f h (received h f .head)
   unfolding act settledTo
   replied bytes e m =
@@ -69,13 +86,13 @@ module _ (h : Head) (f : Received) (valid : Valid h) (r : Requests h f) where
     reads-anew : (i j : ℕ) → reads (written d k v) o i j ≡ anew (effects d o k v) (keyOf i j) (reads d o i j)
     reads-anew i j =
         subst (λ n. reads (written d n v) o i j ≡ anew (effects d o n v) (keyOf i j) (reads d o i j)) (sym (its .key))
-        (reads-after d o (its .place) v (valid .device) (its .takes) i j)
+        (effect-laws .reads-after d o (its .place) v (valid .device) (its .takes) i j)
 
     own : reads (written d k v) o (indexOf (f .bytes)) (subOf (f .bytes)) ≡ some (Number (readBack k v))
     own =
         ap (readOf (written d k v) o) (its .found)
         ∙ subst (λ n. readOf (written d n v) o (At (its .place)) ≡ some (Number (readBack n v))) (sym (its .key))
-        (ap some (own-after d o (its .place) v (valid .device) (its .takes)))
+        (ap some (effect-laws .own-after d o (its .place) v (valid .device) (its .takes)))
 
     accepted : Effects f k v h (received h f .head)
     unfolding act settledTo written

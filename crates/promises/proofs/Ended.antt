@@ -5,50 +5,63 @@ use mathlib.Core.Bool.{true, false, not, _&&_, and-false}
 use borrow.Author.Tests.{eq-eqb, le-ltb}
 use Rattle.cases.proofs.Cases.{true-false}
 use Rattle.can.specs.declared.Received.{Received}
+use Rattle.position.specs.Profile.{highestRaw}
+use Rattle.entries.specs.Keys.{heartbeatKey, emergencyKey}
 use Rattle.dictionary.specs.Accepted.{on}
 use Rattle.sdo.specs.Reply.{confirmed}
 use Rattle.parts.specs.declared.Core.{Core}
 use Rattle.parts.specs.declared.Head.{Head}
 use Rattle.parts.specs.declared.Sensor.the-variants.{Missing, Raw}
-use Rattle.promises.specs.States.{Goal, operational, stopped, preOperational, state, isIn, isInitialising, isLive, good, communication, pdo}
-use Rattle.promises.specs.WaitingLine.{Kind, emergency, sdoReply, heartbeat, tpdo, may}
+use Rattle.promises.specs.States.{CommandedState, operational, stopped, preOperational, state, isIn}
+use Rattle.promises.specs.States.{isInitialising, isLive, good, communication, pdo}
+use Rattle.promises.specs.WaitingLine.{Kind, emergency, sdoReply, heartbeat, tpdo, mayStay}
 use Rattle.promises.specs.Acts.{take, serve, acted}
 use Rattle.promises.specs.Calls.{Call, receive, sample, meant, step}
 use Rattle.promises.specs.Meant.{Writes}
 use Rattle.promises.specs.Valid.{Valid}
-use Rattle.promises.specs.Withdrawals.{identifierKey, Withdrawal, resets, stops, leaves, loses, switches-off, beats-no-more, silenced, found, lost}
-use Rattle.promises.proofs.Slots.{no-may}
+use Rattle.promises.specs.Withdrawals.{identifierKey, Withdrawal, resets, stops, leaves, loses}
+use Rattle.promises.specs.Withdrawals.{switches-off, beats-no-more, silenced, found, lost}
+use Rattle.promises.proofs.Slots.{no-stay}
 use Rattle.promises.proofs.Meant.{core-step, enters, resets as reset-law}
 use Rattle.promises.proofs.Causes.{writes}
 use Rattle.promises.proofs.Conditions.{alerting, alert-written, beat-written, show-written}
 
 module _ (h : Head) (v : Valid h) where
-  written-so : {f : Received} {j n : ℕ} → Writes h f j n → (k : Kind) → may (step h (receive f) .core) k ≡ may (acted (h .core) (serve (confirmed (f .bytes) j n))) k
-  written-so {f} x k = ap (λ c. may c k) (writes h f v x)
+  written-so : {f : Received} {j n : ℕ} → Writes h f j n → (k : Kind)
+      → mayStay (step h (receive f) .core) k ≡ mayStay (acted (h .core) (serve (confirmed (f .bytes) j n))) k
+  written-so {f} x k = ap (λ c. mayStay c k) (writes h f v x)
 
-  stopped-may : (c : Core) (k : Kind) → c .nmt ≡ state stopped → (k ≡ heartbeat → ⊥) → may c k ≡ false
-  stopped-may c emergency e o = rw e
-  stopped-may c sdoReply e o = rw e
-  stopped-may c heartbeat e o = absurd (o refl)
-  stopped-may c (tpdo w) e o = rw e
+  stopped-stay : (c : Core) (k : Kind) → c .nmt ≡ state stopped → (k ≡ heartbeat → ⊥) → mayStay c k ≡ false
+  stopped-stay c emergency e o = rw e
+  stopped-stay c sdoReply e o = rw e
+  stopped-stay c heartbeat e o = absurd (o refl)
+  stopped-stay c (tpdo w) e o = rw e
 
-  elsewhere : (c d : Core) (g : Goal) → isIn operational c ≡ true → isIn g c ≡ false → d .nmt ≡ state g → isIn operational d ≡ false
+  elsewhere : (c d : Core) (g : CommandedState) → isIn operational c ≡ true → isIn g c ≡ false → d .nmt ≡ state g
+      → isIn operational d ≡ false
   elsewhere c d operational y n e = true-false (sym y ∙ n)
   elsewhere c d stopped y n e = rw e
   elsewhere c d preOperational y n e = rw e
 
-  pub ended : {x : Call} {k : Kind} → Withdrawal h x k → may (step h x .core) k ≡ false
-  ended (resets {f} {r} {k} m) = no-may (step h (receive f) .core) k (reset-law h f r m .initialising)
-  ended (stops {f} {k} m o) = stopped-may (step h (receive f) .core) k (enters h f stopped m) o
-  ended (leaves {f} {g} {w} m y n) = ap (λ t. t && on (pdo (communication d) w .identifier) && good d) (elsewhere (h .core) d g y n (enters h f g m))
+  pub ended : {x : Call} {k : Kind} → Withdrawal h x k → mayStay (step h x .core) k ≡ false
+  ended (resets {f} {r} {k} m) = no-stay (step h (receive f) .core) k (reset-law h f r m .initialising)
+  ended (stops {f} {k} m o) = stopped-stay (step h (receive f) .core) k (enters h f stopped m) o
+  ended (leaves {f} {g} {w} m y n) =
+      ap (λ t. t && on (pdo (communication d) w .identifier) && good d) (elsewhere (h .core) d g y n (enters h f g m))
     where
       d : Core
       d = step h (receive f) .core
-  ended (loses {w}) = ap (λ c. may c (tpdo w)) (core-step h (sample Missing)) ∙ and-false (isIn operational (h .core) && on (pdo (communication (h .core)) w .identifier))
-  ended (switches-off {f} {v = j} {w} x o) = written-so x (tpdo w) ∙ show-written (h .core) (f .bytes) (identifierKey w) j w ∙ rw (eq-eqb (identifierKey w) (identifierKey w) refl, o, and-false (isIn operational (h .core)))
-  ended (beats-no-more {f} x) = written-so x heartbeat ∙ beat-written (h .core) (f .bytes) 0x1017_00 0 ∙ and-false (not (isInitialising (h .core)))
-  ended (silenced {f} {v = j} x o) = written-so x emergency ∙ alert-written (h .core) (f .bytes) 0x1014_00 j ∙ rw (o, and-false (isLive (h .core)))
+  ended (loses {w}) =
+      ap (λ c. mayStay c (tpdo w)) (core-step h (sample Missing))
+      ∙ and-false (isIn operational (h .core) && on (pdo (communication (h .core)) w .identifier))
+  ended (switches-off {f} {v = j} {w} x o) =
+      written-so x (tpdo w) ∙ show-written (h .core) (f .bytes) (identifierKey w) j w
+      ∙ rw (eq-eqb (identifierKey w) (identifierKey w) refl, o, and-false (isIn operational (h .core)))
+  ended (beats-no-more {f} x) =
+      written-so x heartbeat ∙ beat-written (h .core) (f .bytes) heartbeatKey 0 ∙ and-false (not (isInitialising (h .core)))
+  ended (silenced {f} {v = j} x o) =
+      written-so x emergency ∙ alert-written (h .core) (f .bytes) emergencyKey j ∙ rw (o, and-false (isLive (h .core)))
   ended (found {r} b a) =
-      let m : meant h (sample (Raw r)) ≡ take r = rw (le-ltb 1048575 r b) in
-      ap (λ c. may c emergency) (core-step h (sample (Raw r)) ∙ ap (acted (h .core)) m) ∙ rw a (and-false (alerting (h .core)))
-  ended (lost a) = ap (λ c. may c emergency) (core-step h (sample Missing)) ∙ rw a (and-false (alerting (h .core)))
+      let m : meant h (sample (Raw r)) ≡ take r = rw (le-ltb highestRaw r b) in
+      ap (λ c. mayStay c emergency) (core-step h (sample (Raw r)) ∙ ap (acted (h .core)) m) ∙ rw a (and-false (alerting (h .core)))
+  ended (lost a) = ap (λ c. mayStay c emergency) (core-step h (sample Missing)) ∙ rw a (and-false (alerting (h .core)))

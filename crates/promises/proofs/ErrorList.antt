@@ -13,6 +13,7 @@ use Rattle.can.specs.declared.Received.{Received}
 use Rattle.entries.specs.declared.Device.{Device}
 use Rattle.entries.specs.declared.Reading.{Reading}
 use Rattle.entries.specs.Table.{entries, table, lookup}
+use Rattle.entries.specs.Keys.{errorCountKey}
 use Rattle.dictionary.specs.declared.read.Shown.the-variants.{Number}
 use Rattle.dictionary.specs.Reads.{shownAt}
 use Rattle.dictionary.specs.Writes.{written}
@@ -57,9 +58,11 @@ module _ (d : Device) (o : Bool) where
   error-shown (suc (suc (suc (suc (suc j))))) a b = absurd (omega arith)
 
 -- one more, at most 4
-counts : (s : Sensor) (e n : ℕ) → e ≡ min 4 n → (h : Head) → cond (readingOf s .good && ltb e 4) (suc e) e ≡ min 4 (lossesBy h s n (sample Missing))
+counts : (s : Sensor) (e n : ℕ) → e ≡ min 4 n → (h : Head)
+    → cond (readingOf s .good && ltb e 4) (suc e) e ≡ min 4 (lossesBy h s n (sample Missing))
 counts Missing e n q h = q
-counts (Raw r) e n q h = by (λ (m : ℕ). m ≡ min 4 (suc n)) (ltb e 4) (λ t. omega (arith, q, ltb-true e 4 t)) (λ t. omega (arith, q, ltb-false e 4 t))
+counts (Raw r) e n q h =
+    by (λ (m : ℕ). m ≡ min 4 (suc n)) (ltb e 4) (λ t. omega (arith, q, ltb-true e 4 t)) (λ t. omega (arith, q, ltb-false e 4 t))
 
 -- only a write to 1003-0 empties the list
 errors-due : (d : Device) (f : List ℕ) (y : Due) → confirms isCount y ≡ false → carriedOut d (answer f y .effect) .errors ≡ d .errors
@@ -69,23 +72,25 @@ errors-due d f (value w x) n = refl
 errors-due d f (confirmation k v) n = rw n
 errors-due d f (abort c) n = refl
 
-emptied-errors : (d : Device) (v : ℕ) → written d 0x1003_00 v .errors ≡ 0
+emptied-errors : (d : Device) (v : ℕ) → written d errorCountKey v .errors ≡ 0
 unfolding written
 emptied-errors d v = refl
 
 module _ (h : Head) (f : Received) where
   -- what is written there is 0
-  is-emptied : (empties h f ≡ true) ↔ Writes h f 0x1003_00 0
+  is-emptied : (empties h f ≡ true) ↔ Writes h f errorCountKey 0
   is-emptied = (as-write, λ w. rw (is-request h f .1 (w .requests), w .accepted))
     where
-      as-write : empties h f ≡ true → Writes h f 0x1003_00 0
+      as-write : empties h f ≡ true → Writes h f errorCountKey 0
       as-write e =
           let u = both (isRequest h f) (confirms isCount (dueTo h f)) e in
           let x = confirmed-by isCount (dueTo h f) (u .1) in
-          let y : (v : ℕ) × (dueTo h f ≡ confirmation 0x1003_00 v) = (x .1, x .3 ∙ ap (λ (k : ℕ). confirmation k (x .1)) (eqb-true (x .0) 0x1003_00 (x .2))) in
+          let y : (v : ℕ) × (dueTo h f ≡ confirmation errorCountKey v) =
+          (x .1, x .3 ∙ ap (λ (k : ℕ). confirmation k (x .1)) (eqb-true (x .0) errorCountKey (x .2))) in
           let c = told h f (y .1) in
-          let zero : y .0 ≡ 0 = emptied (h .core .device) (isIn operational (h .core)) (c .place) (y .0) (c .takes) (eq-eqb _ _ (sym (c .key))) in
-          record { requests = is-request h f .0 (u .0); accepted = y .1 ∙ ap (λ (v : ℕ). confirmation 0x1003_00 v) zero }
+          let zero : y .0 ≡ 0 =
+          emptied (h .core .device) (isIn operational (h .core)) (c .place) (y .0) (c .takes) (eq-eqb _ _ (sym (c .key))) in
+          record { requests = is-request h f .0 (u .0); accepted = y .1 ∙ ap (λ (v : ℕ). confirmation errorCountKey v) zero }
 
 module _ (h : Head) (s : Sensor) (n : ℕ) (p : h .core .device .reading ≡ readingOf s) (q : h .core .device .errors ≡ min 4 n) where
   abbrev Unemptied : Call → Type 0
@@ -118,7 +123,8 @@ module _ (h : Head) (s : Sensor) (n : ℕ) (p : h .core .device .reading ≡ rea
   errors-step v (sample t) = errors-by (sample t) _ (altered h v (sample t)) tt
   errors-step v slot = errors-by slot _ (altered h v slot) tt
 
-errors-after : (cs : List Call) (h : Head) (s : Sensor) (n : ℕ) → Valid h → h .core .device .reading ≡ readingOf s → h .core .device .errors ≡ min 4 n
+errors-after : (cs : List Call) (h : Head) (s : Sensor) (n : ℕ) → Valid h → h .core .device .reading ≡ readingOf s
+    → h .core .device .errors ≡ min 4 n
     → after h cs .core .device .errors ≡ min 4 (losses h s n cs)
 errors-after [] h s n v p q = q
 errors-after (c ∷ cs) h s n v p q =
@@ -132,7 +138,8 @@ error-list p cs =
     let h = after (powered p) cs in
     let d = h .core .device in
     let o = isIn operational (h .core) in
-    let e : d .errors ≡ min 4 (losses (powered p) Missing 0 cs) = errors-after cs (powered p) Missing 0 (valid-powered p) (reading-powered p) (none-lost p) in
+    let e : d .errors ≡ min 4 (losses (powered p) Missing 0 cs) =
+    errors-after cs (powered p) Missing 0 (valid-powered p) (reading-powered p) (none-lost p) in
     record {
       count = count-shown d o ∙ ap (λ (n : ℕ). some (Number n)) e;
       error = λ j a b. error-shown d o j a b ∙ ap (λ (n : ℕ). some (shownError n j)) e;

@@ -15,9 +15,11 @@ use Rattle.parts.specs.declared.Core.{Core}
 use Rattle.parts.specs.declared.Head.{Head}
 use Rattle.parts.specs.declared.Sensor.{Sensor}
 use Rattle.parts.specs.declared.Sensor.the-variants.{Missing, Raw}
+use Rattle.position.specs.Profile.{highestRaw}
 use Rattle.promises.specs.States.{operational, isIn, isInitialising, isLive, node, Command, noCommand, toEnter, toReset, commandOf}
 use Rattle.promises.specs.Acts.{Act, nothing, enter, reset, boot, idle, send, take, lose, time, sync, serve}
 use Rattle.promises.specs.Calls.{Call, receive, tick, sample, slot, isSlot, commanded, synchronised, requested, meant}
+use Rattle.promises.proofs.KindNumbers.{sent-as}
 use Rattle.promises.proofs.Hearing.{heard-by, booted}
 
 abbrev pub Fits : Bool → Core → Act → Type 0
@@ -27,7 +29,7 @@ Fits atSlot c (reset r) = isInitialising c ≡ false
 Fits atSlot c boot = isInitialising c ≡ true
 Fits atSlot c idle = isInitialising c ≡ false
 Fits atSlot c (send k) = isInitialising c ≡ false
-Fits atSlot c (take r) = r ≤ 1048575
+Fits atSlot c (take r) = r ≤ highestRaw
 Fits atSlot c lose = Unit {0}
 Fits atSlot c time = isInitialising c ≡ false
 Fits atSlot c sync = isIn operational c ≡ true
@@ -60,10 +62,11 @@ module _ (h : Head) where
 
   fits-sample : (s : Sensor) → Here (meant h (sample s))
   fits-sample Missing = tt
-  fits-sample (Raw r) = by Here _ (λ _. refl) (λ e. ltb-false 1048575 r e)
+  fits-sample (Raw r) = by Here _ (λ _. refl) (λ e. ltb-false highestRaw r e)
 
   pub fits : (x : Call) → Fits (isSlot x) c (meant h x)
-  fits (receive f) = heard-by h f Here refl (λ x _. fits-command (commandOf (node c) f) (booted x)) (λ _ _. fits-sync (f .length)) (λ _ _. fits-request f)
+  fits (receive f) =
+      heard-by h f Here refl (λ x _. fits-command (commandOf (node c) f) (booted x)) (λ _ _. fits-sync (f .length)) (λ _ _. fits-request f)
   fits tick = by Here (isInitialising c) (λ _. refl) (λ i. i)
   fits (sample s) = fits-sample s
-  fits slot = by (Fits true c) (isInitialising c) (λ i. i) (λ i. by (Fits true c) (eqb (first (h .line)) 0) (λ _. i) (λ _. i))
+  fits slot = by (Fits true c) (isInitialising c) (λ i. i) (λ i. sent-as (Fits true c) (first (h .line)) i (λ _. i))

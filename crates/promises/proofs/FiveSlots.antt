@@ -28,7 +28,8 @@ use Rattle.promises.proofs.Lined.{lined}
 use Rattle.promises.proofs.BootUp.{boots}
 
 -- the first call after which k no longer waits
-gone-first : (before : List Call) (call : Call) (rest : List Call) (h : Head) (k : Kind) → Valid h → waits h k ≡ true → waits (step (after h before) call) k ≡ false
+gone-first : (before : List Call) (call : Call) (rest : List Call) (h : Head) (k : Kind) → Valid h → waits h k ≡ true
+    → waits (step (after h before) call) k ≡ false
     → LeavesBy (suc (slots before)) h (before ++ call ∷ rest) k
 gone-first [] call rest h k v w n =
     record { before = []; call = call; rest = rest; split = refl; early = omega arith; until = w; how = only-so h v call k w n; gone = n }
@@ -46,11 +47,29 @@ gone-first (c ∷ before) call rest h k v w n =
       how = l .how;
       gone = l .gone;
     })
-    (λ z. record { before = []; call = c; rest = before ++ call ∷ rest; split = refl; early = omega arith; until = w; how = only-so h v c k w z; gone = z })
+    (λ z. record {
+      before = [];
+      call = c;
+      rest = before ++ call ∷ rest;
+      split = refl;
+      early = omega arith;
+      until = w;
+      how = only-so h v c k w z;
+      gone = z;
+    })
 
 sooner : {a b : ℕ} {h : Head} {k : Kind} {xs cs : List Call} → LeavesBy a h xs k → cs ≡ xs → a ≤ b → LeavesBy b h cs k
 sooner l e le =
-    record { before = l .before; call = l .call; rest = l .rest; split = e ∙ l .split; early = omega (arith, l .early, le); until = l .until; how = l .how; gone = l .gone }
+    record {
+      before = l .before;
+      call = l .call;
+      rest = l .rest;
+      split = e ∙ l .split;
+      early = omega (arith, l .early, le);
+      until = l .until;
+      how = l .how;
+      gone = l .gone;
+    }
 
 by-the-fifth : (h : Head) (cs : List Call) (k : Kind) → Valid h → waits h k ≡ true → places ≤ slots cs → LeavesBy places h cs k
 by-the-fifth h cs k v w enough =
@@ -60,7 +79,8 @@ by-the-fifth h cs k v w enough =
     let u : Valid g = rw there (valid-after h (l .before) v) in
     let n : waits (step g (l .call)) k ≡ false =
     ⊎-elim (λ x. sent-gone g u (l .call) k (sends-it g u (l .call) k (a-slot (l .call) (x .0)) (x .1))) (λ x. x .1) (l .how) in
-    sooner (gone-first (l .before) (l .call) (l .rest) h k v w (rw (← there) n)) (l .split) (omega (arith, l .early, slots-slots (l .before)))
+    sooner (gone-first (l .before) (l .call) (l .rest) h k v w (rw (← there) n)) (l .split)
+    (omega (arith, l .early, slots-slots (l .before)))
 
 answers : (h : Head) → Valid h → Answered h (slotted h .waited) (slotted h .frame)
 answers h v = by-act (meant h slot) (at-slot h v)
@@ -72,8 +92,10 @@ answers h v = by-act (meant h slot) (at-slot h v)
 
 none-exactly : (h : Head) → Valid h → (slotted h .waited ≡ false) ↔ ((isInitialising (h .core) ≡ false) × ((k : Kind) → waits h k ≡ false))
 none-exactly h v =
-    let x = none-left h v in
-    (λ e. (x .0 e .0, λ k. ap (has (number k)) (x .0 e .1)), λ u. x .1 (u .0, none-of (waiting (h .line)) (v .line .kinds) (λ k w. true-false (sym w ∙ u .1 k))))
+    let x = none-left h v in (
+      λ e. (x .0 e .0, λ k. ap (has (number k)) (x .0 e .1)),
+      λ u. x .1 (u .0, none-of (waiting (h .line)) (v .line .kinds) (λ k w. true-false (sym w ∙ u .1 k))),
+    )
 
 pub five-slots : FiveSlots
 five-slots =

@@ -18,7 +18,8 @@ use Rattle.promises.specs.Calls.{Call, sample, step}
 use Rattle.promises.specs.Valid.{waits, Valid}
 use Rattle.promises.specs.Histories.{after, slots, sent, PowerUp, powered, Reachable}
 use Rattle.promises.specs.FiveSlots.{LeavesBy}
-use Rattle.promises.specs.Gap.{nodeOf, among, lastEmergency, saysMissing, Said, unsaid, said-good, said-missing, isGoodSample, isCommand, stopsOrResets, isOff, heads, Unrelieved, Gap}
+use Rattle.promises.specs.Gap.{nodeOf, among, lastEmergency, saysMissing, Said, unsaid, said-good, said-missing}
+use Rattle.promises.specs.Gap.{isGoodSample, isCommand, stopsOrResets, isOff, heads, Unrelieved, Gap}
 use Rattle.promises.proofs.States.{not-live}
 use Rattle.promises.proofs.Valid.{valid-step, emergency-exactly}
 use Rattle.promises.proofs.Meant.{core-step}
@@ -48,7 +49,8 @@ is-on h [] u = not-false _ (neither (isOff h) false (u .alerting) .0)
 is-on h (x ∷ cs) u = not-false _ (neither (isOff h) (among isOff (heads (step h x) cs)) (u .alerting) .0)
 
 module _ {n : ℕ} where
-  runs : {h : Head} {x : Call} {cs : List Call} → Gapped n h (x ∷ cs) → (isCommand n stopsOrResets x ≡ false) × (among (isCommand n stopsOrResets) cs ≡ false)
+  runs : {h : Head} {x : Call} {cs : List Call} → Gapped n h (x ∷ cs)
+      → (isCommand n stopsOrResets x ≡ false) × (among (isCommand n stopsOrResets) cs ≡ false)
   runs {h} {x} {cs} g = neither (isCommand n stopsOrResets x) (among (isCommand n stopsOrResets) cs) (g .unrelieved .running)
 
   gapped-step : {h : Head} {x : Call} {cs : List Call} → Gapped n h (x ∷ cs) → Gapped n (step h x) cs

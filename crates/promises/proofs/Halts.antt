@@ -1,5 +1,5 @@
 -- Only a stop and a reset leave Pre-operational and Operational, and only their commands mean them.
-use lib.Dec.{eqb, ltb}
+use lib.Dec.{ltb}
 use mathlib.Core.Path.{_≡_, refl}
 use mathlib.Core.Bool.{true}
 use Rattle.cases.proofs.Cases.{by}
@@ -8,6 +8,7 @@ use Rattle.waiting.specs.Line.{first}
 use Rattle.parts.specs.declared.Core.{Core}
 use Rattle.parts.specs.declared.Head.{Head}
 use Rattle.parts.specs.declared.Sensor.the-variants.{Missing, Raw}
+use Rattle.position.specs.Profile.{highestRaw}
 use Rattle.promises.specs.States.{operational, stopped, preOperational, isInitialising, isLive, Reset, Command, toEnter, toReset}
 use Rattle.promises.specs.WaitingLine.{emergency, sdoReply, heartbeat, tpdo}
 use Rattle.promises.specs.Acts.{Act, nothing, enter, reset, boot, idle, send, take, lose, time, sync, serve, acted}
@@ -15,6 +16,7 @@ use Rattle.promises.specs.Calls.{Call, receive, tick, sample, slot, mean
 use Rattle.promises.specs.Valid.{Valid}
 use Rattle.promises.specs.Meant.{Commands}
 use Rattle.promises.specs.Service.{takesReply}
+use Rattle.promises.proofs.KindNumbers.{sent-as}
 use Rattle.promises.proofs.Causes.{Cause, cause}
 
 pub data Halts : Act → Type 0 where
@@ -55,7 +57,7 @@ module _ (h : Head) (v : Valid h) where
   halted (receive f) = by-frame f (meant h (receive f)) (cause h f v)
   halted tick = by (λ a. Halts a → ⊥) (isInitialising (h .core)) (λ _ s. elim s [ ]) (λ _ s. elim s [ ])
   halted (sample Missing) = λ s. elim s [ ]
-  halted (sample (Raw r)) = by (λ a. Halts a → ⊥) (ltb 1048575 r) (λ _ s. elim s [ ]) (λ _ s. elim s [ ])
+  halted (sample (Raw r)) = by (λ a. Halts a → ⊥) (ltb highestRaw r) (λ _ s. elim s [ ]) (λ _ s. elim s [ ])
   halted slot =
       by (λ a. Halts a → ⊥) (isInitialising (h .core)) (λ _ s. elim s [ ])
-      (λ _. by (λ a. Halts a → ⊥) (eqb (first (h .line)) 0) (λ _ s. elim s [ ]) (λ _ s. elim s [ ]))
+      (λ _. sent-as (λ a. Halts a → ⊥) (first (h .line)) (λ s. elim s [ ]) (λ _ s. elim s [ ]))

@@ -32,8 +32,10 @@ pub valid-powered : (p : PowerUp) → Valid (powered p)
 valid-powered p =
     let n = p .number in
     by (λ (a : Answer). Valid (a .head)) _
-    (λ e. let bounds = both (leb 1 n) (leb n 127) e in valid-started n (p .identity) (leb-true _ _ (bounds .0)) (leb-true _ _ (bounds .1)) (p .fits))
-    (λ _. valid-started 1 noIdentity (omega arith) (omega arith) (record { vendor = least; product = least; revision = least; serial = least }))
+    (λ e. let bounds = both (leb 1 n) (leb n 127) e in valid-started n (p .identity) (leb-true _ _ (bounds .0)) (leb-true _ _ (bounds .1))
+    (p .fits))
+    (λ _. valid-started 1 noIdentity (omega arith) (omega arith)
+    (record { vendor = least; product = least; revision = least; serial = least }))
   where
     least : 0 ≤ 0xFFFFFFFF
     least = omega arith

@@ -11,8 +11,9 @@ use Rattle.can.specs.declared.Received.{Received}
 use Rattle.parts.specs.declared.Core.{Core}
 use Rattle.parts.specs.declared.Head.{Head}
 use Rattle.parts.specs.declared.Sensor.the-variants.{Missing, Raw}
+use Rattle.position.specs.Profile.{highestRaw}
 use Rattle.promises.specs.States.{isInitialising, node, communication}
-use Rattle.promises.specs.WaitingLine.{Kind, emergency, sdoReply, heartbeat, tpdo, may}
+use Rattle.promises.specs.WaitingLine.{Kind, emergency, sdoReply, heartbeat, tpdo, mayStay}
 use Rattle.promises.specs.Timers.{inhibitTicks}
 use Rattle.promises.specs.Acts.{Act, nothing, enter, reset, boot, idle, send, take, lose, time, sync, serve, acted, frameBy}
 use Rattle.promises.specs.Calls.{Call, receive, tick, sample, slot, meant, step}
@@ -59,9 +60,11 @@ module _ (n : ℕ) (h : Head) (q : node (h .core) ≡ n) (v : Valid h) where
       (λ i. let r = resets-heard n h f q i e in ap (λ t. t .inhibit) (resets-to h f (r .0) (r .1) .timers))
 
   abbrev Left : Act → Type 0
-  Left a = acted c a .timers .inhibit ≡ cond (among (isEmergency n) (framed (frameBy c a))) (inhibitTicks (communication c .inhibit)) (c .timers .inhibit)
+  Left a =
+      acted c a .timers .inhibit
+      ≡ cond (among (isEmergency n) (framed (frameBy c a))) (inhibitTicks (communication c .inhibit)) (c .timers .inhibit)
 
-  left-sent : (k : Kind) → may c k ≡ true → Left (send k)
+  left-sent : (k : Kind) → mayStay c k ≡ true → Left (send k)
   left-sent emergency m = rw (known n c q (v .device) emergency m .emergency)
   left-sent sdoReply m = rw (known n c q (v .device) sdoReply m .emergency)
   left-sent heartbeat m = rw (known n c q (v .device) heartbeat m .emergency)
@@ -77,12 +80,17 @@ module _ (n : ℕ) (h : Head) (q : node (h .core) ≡ n) (v : Valid h) where
       test (isCommand n resets (receive f))
       (λ e. rw e (ended f e))
       (λ e. rw (e, core-step h (receive f)) (kept f (meant h (receive f)) e (cause h f v)))
-  left-step tick = rw (core-step h tick) (by (λ a. acted c a .timers .inhibit ≡ c .timers .inhibit - 1) (isInitialising c) (λ i. rw (none-runs i)) (λ _. refl))
+  left-step tick =
+      rw (core-step h tick) (by (λ a. acted c a .timers .inhibit ≡ c .timers .inhibit - 1) (isInitialising c) (λ i. rw (none-runs i))
+      (λ _. refl))
   left-step (sample Missing) = ap (λ d. d .timers .inhibit) (core-step h (sample Missing))
-  left-step (sample (Raw r)) = rw (core-step h (sample (Raw r))) (by (λ a. acted c a .timers .inhibit ≡ c .timers .inhibit) (ltb 1048575 r) (λ _. refl) (λ _. refl))
+  left-step (sample (Raw r)) =
+      rw (core-step h (sample (Raw r)))
+      (by (λ a. acted c a .timers .inhibit ≡ c .timers .inhibit) (ltb highestRaw r) (λ _. refl) (λ _. refl))
   left-step slot = rw (core-step h slot, frames-by h v slot) (left-slot (meant h slot) (at-slot h v))
 
-left-after : (n : ℕ) (cs : List Call) (h : Head) (t : ℕ) → node (h .core) ≡ n → Valid h → h .core .timers .inhibit ≡ t → after h cs .core .timers .inhibit ≡ left n h cs t
+left-after : (n : ℕ) (cs : List Call) (h : Head) (t : ℕ) → node (h .core) ≡ n → Valid h → h .core .timers .inhibit ≡ t
+    → after h cs .core .timers .inhibit ≡ left n h cs t
 left-after n [] h t q v e = e
 left-after n (x ∷ cs) h t q v e =
     left-after n cs (step h x) (leftBy n h x t) (node-step h v x ∙ q) (valid-step h x v) (left-step n h q v x ∙ ap (leftBy n h x) e)

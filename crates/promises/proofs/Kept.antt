@@ -10,6 +10,7 @@ use Rattle.can.specs.declared.Received.{Received}
 use Rattle.entries.specs.declared.Device.{Device}
 use Rattle.entries.specs.declared.Reading.{Reading}
 use Rattle.entries.specs.declared.Settings.{Settings}
+use Rattle.entries.specs.Keys.{saveKey, loadKey}
 use Rattle.dictionary.specs.Writes.{written}
 use Rattle.sdo.specs.Reply.{carriedOut}
 use Rattle.sdo.specs.Service.{Due, none, value, confirmation, abort, answer}
@@ -45,7 +46,8 @@ module _ (set : Device → Settings) (unsensed : (d : Device) (r : Reading) (e :
 
     after-calls : (h : Head) → Valid h → (cs : List Call) → None Such h cs → set (after h cs .core .device) ≡ set (h .core .device)
     after-calls h v [] n = refl
-    after-calls h v (c ∷ cs) n = after-calls (step h c) (valid-step h c v) cs (n .1) ∙ kept h c (step h c .core .device) (n .0) (altered h v c)
+    after-calls h v (c ∷ cs) n =
+        after-calls (step h c) (valid-step h c v) cs (n .1) ∙ kept h c (step h c .core .device) (n .0) (altered h v c)
 
 module _ (h : Head) (f : Received) (r : Requests h f) where
   abbrev Kept : (Device → Settings) → Due → Type 0
@@ -63,14 +65,15 @@ module _ (h : Head) (f : Received) (r : Requests h f) where
   unsaved (value w m) e n = refl
   unsaved (confirmation k v) e n =
       let its-set = h .core .device .saved in
-      by (λ s. s ≡ its-set) (eqb k 0x1010_01)
-      (λ t. absurd (n (v, inl (record { requests = r; accepted = e ∙ ap (λ x. confirmation x v) (eqb-true k 0x1010_01 t) }))))
-      (λ _. by (λ s. s ≡ its-set) (eqb k 0x1011_01)
-      (λ t. absurd (n (v, inr (record { requests = r; accepted = e ∙ ap (λ x. confirmation x v) (eqb-true k 0x1011_01 t) }))))
+      by (λ s. s ≡ its-set) (eqb k saveKey)
+      (λ t. absurd (n (v, inl (record { requests = r; accepted = e ∙ ap (λ x. confirmation x v) (eqb-true k saveKey t) }))))
+      (λ _. by (λ s. s ≡ its-set) (eqb k loadKey)
+      (λ t. absurd (n (v, inr (record { requests = r; accepted = e ∙ ap (λ x. confirmation x v) (eqb-true k loadKey t) }))))
       (λ _. refl))
   unsaved (abort code) e n = refl
 
-pub settings-after : (h : Head) → Valid h → (cs : List Call) → None Alters h cs → after h cs .core .device .settings ≡ h .core .device .settings
+pub settings-after : (h : Head) → Valid h → (cs : List Call) → None Alters h cs
+    → after h cs .core .device .settings ≡ h .core .device .settings
 settings-after =
     after-calls (λ d. d .settings) (λ d r e. refl) Alters
     (λ h f n. (λ r m. absurd (n (inr (r, m))), λ q. unaltered h f q (dueTo h f) refl n))

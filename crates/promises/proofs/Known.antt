@@ -16,8 +16,9 @@ use Rattle.dictionary.specs.Valid.{ValidPdo, ValidDevice}
 use Rattle.parts.specs.declared.Core.{Core}
 use Rattle.parts.specs.declared.Head.{Head}
 use Rattle.parts.specs.declared.Sensor.the-variants.{Missing, Raw}
-use Rattle.promises.specs.States.{isInitialising, node, communication, pdo, Which, one, two}
-use Rattle.promises.specs.WaitingLine.{Kind, emergency, sdoReply, heartbeat, tpdo, may, bootUpFrame, frameOf}
+use Rattle.position.specs.Profile.{highestRaw}
+use Rattle.promises.specs.States.{isInitialising, node, communication, pdo, PdoNumber, one, two}
+use Rattle.promises.specs.WaitingLine.{Kind, emergency, sdoReply, heartbeat, tpdo, mayStay, bootUpFrame, frameOf}
 use Rattle.promises.specs.Acts.{Act, nothing, enter, reset, boot, idle, send, take, lose, time, sync, serve, frameBy}
 use Rattle.promises.specs.Calls.{Call, receive, tick, sample, slot, meant, isFrame, frameIn}
 use Rattle.promises.specs.Valid.{waits, Valid}
@@ -53,7 +54,7 @@ pub frames-by : (h : Head) → Valid h → (x : Call) → frames h x ≡ framed 
 frames-by h v (receive f) = unsent h f (meant h (receive f)) (cause h f v)
 frames-by h v tick = by (λ a. [] ≡ framed (frameBy (h .core) a)) (isInitialising (h .core)) (λ _. refl) (λ _. refl)
 frames-by h v (sample Missing) = refl
-frames-by h v (sample (Raw r)) = by (λ a. [] ≡ framed (frameBy (h .core) a)) (ltb 1048575 r) (λ _. refl) (λ _. refl)
+frames-by h v (sample (Raw r)) = by (λ a. [] ≡ framed (frameBy (h .core) a)) (ltb highestRaw r) (λ _. refl) (λ _. refl)
 frames-by h v slot = answered (frameBy (h .core) (meant h slot))
 
 -- What is sent waits, and so it may.
@@ -76,11 +77,11 @@ sent-waits h v slot k e = by-act (meant h slot) (at-slot h v) e
 
 -- A PDO that is on has its identifier in 181h..57Fh.
 module _ (c : Core) (v : ValidDevice (c .device)) where
-  valid-pdo : (w : Which) → ValidPdo (pdo (communication c) w)
+  valid-pdo : (w : PdoNumber) → ValidPdo (pdo (communication c) w)
   valid-pdo one = v .settings .communication .pdo1
   valid-pdo two = v .settings .communication .pdo2
 
-  inside : (w : Which) → may c (tpdo w) ≡ true → within 0x181 0x57F (pdo (communication c) w .identifier) ≡ true
+  inside : (w : PdoNumber) → mayStay c (tpdo w) ≡ true → within 0x181 0x57F (pdo (communication c) w .identifier) ≡ true
   inside w m =
       let i = pdo (communication c) w .identifier in
       let accepted = both (eqb (i % 0x80000000 / 0x800) 0) (not (on i) || within 0x181 0x57F i) (valid-pdo w .identifier) in
@@ -119,14 +120,14 @@ module _ (n : ℕ) (c : Core) (q : node c ≡ n) (v : ValidDevice (c .device)) w
   few : n ≤ 127
   few = omega (arith, v .node-high)
 
-  pub known : (k : Kind) → may c k ≡ true → Known n (frameOf c k) false (alerts k) (showsPosition k)
+  pub known : (k : Kind) → mayStay c k ≡ true → Known n (frameOf c k) false (alerts k) (showsPosition k)
   known emergency m = below n (frameOf c emergency) (omega arith) (omega (arith, few))
   known sdoReply m = above n (frameOf c sdoReply) few (omega arith) (rw (ne-eqb (0x580 + node c) (0x700 + n) (λ e. omega arith)))
   known heartbeat m = above n (frameOf c heartbeat) few (omega arith) (rw (not-true (isInitialising c) (beats c m .0)) (simp and-false))
   known (tpdo w) m = between n (frameOf c (tpdo w)) (omega (arith, v .node-low)) few (inside c v w m)
 
   -- of these only a reply's is 580h+N
-  pub only-reply : (k : Kind) → may c k ≡ true → frameOf c k .identifier ≡ 0x580 + node c → k ≡ sdoReply
+  pub only-reply : (k : Kind) → mayStay c k ≡ true → frameOf c k .identifier ≡ 0x580 + node c → k ≡ sdoReply
   only-reply emergency m e = absurd (omega arith)
   only-reply sdoReply m e = refl
   only-reply heartbeat m e = absurd (omega arith)

@@ -1,4 +1,5 @@
 pub mod Nothing
+pub mod KindNumbers
 pub mod Waits
 pub mod Hearing
 pub mod Fits
@@ -10,6 +11,7 @@ pub mod Valid
 pub mod Refusals
 pub mod Unmeant
 pub mod Slots
+pub mod Settled
 pub mod Meant
 pub mod Causes
 pub mod Altered
@@ -39,18 +41,13 @@ pub mod ReplyJoins
 pub mod Service
 pub mod Owed
 pub mod Replies
-pub mod Anew
 pub mod Restarts
 pub mod Effects
-pub mod Node1
-pub mod EffectsMet
 pub mod Positions
 pub mod ErrorList
-pub mod Runs
 pub mod Kept
 pub mod ReadsOn
 pub mod Resets
-pub mod ResetsMet
 pub mod Remainders
 pub mod Tested
 pub mod Beats
@@ -61,6 +58,3 @@ pub mod Codes
 pub mod Starts
 pub mod Demand2
 pub mod Demand3
-pub mod FullLine
-pub mod Busy
-pub mod Joining

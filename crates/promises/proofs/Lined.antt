@@ -10,15 +10,16 @@ use Rattle.cases.proofs.Cases.{by, test, true-false}
 use Rattle.waiting.specs.Line.{places, has, first}
 use Rattle.waiting.specs.Places.{waiting}
 use Rattle.waiting.specs.Laws.{InOrder}
-use Rattle.waiting.proofs.Laws.{laws, in-turn}
+use Rattle.waiting.proofs.Laws.{laws}
+use Rattle.waiting.proofs.Order.{among-trans}
 use Rattle.parts.specs.declared.Core.{Core}
 use Rattle.parts.specs.declared.Head.{Head}
-use Rattle.promises.specs.WaitingLine.{Kind, number, kindOf, flag, may}
-use Rattle.promises.specs.Acts.{acted, moments}
+use Rattle.promises.specs.WaitingLine.{Kind, number, mayStay, mayJoin}
+use Rattle.promises.specs.Acts.{acted, momentsOf}
 use Rattle.promises.specs.Calls.{Call, isSlot, meant, step}
 use Rattle.promises.specs.Valid.{waits, Valid}
 use Rattle.promises.specs.FiveSlots.{Lined}
-use Rattle.promises.proofs.Waits.{has-those}
+use Rattle.promises.proofs.KindNumbers.{has-those, among-those}
 use Rattle.promises.proofs.Valid.{valid-step}
 use Rattle.promises.proofs.Meant.{core-step}
 use Rattle.promises.proofs.Turns.{machine, sound}
@@ -39,11 +40,14 @@ module _ (h : Head) (v : Valid h) (c : Call) where
   turns = laws places .in-order (isSlot c) (machine .out h c) (machine .into h c) ws
 
   module _ (k : Kind) (w : waits h k ≡ true) (y : waits (step h c) k ≡ true) where
-    still-may : may later k ≡ true
-    still-may = sym (ap (λ x. may x k) (core-step h c)) ∙ valid-step h c v .only k y
+    still-may : mayStay later k ≡ true
+    still-may = sym (ap (λ x. mayStay x k) (core-step h c)) ∙ valid-step h c v .only k y
 
     not-out : has (number k) (machine .out h c) ≡ false
-    not-out = has-those (λ j. may (h .core) j && not (may later j)) k ∙ ap (λ t. may (h .core) k && not t) still-may ∙ and-false (may (h .core) k)
+    not-out =
+        has-those (λ j. mayStay (h .core) j && not (mayStay later j)) k
+        ∙ ap (λ t. mayStay (h .core) k && not t) still-may
+        ∙ and-false (mayStay (h .core) k)
 
     not-first : isSlot c ≡ true → eqb (first ws) (number k) ≡ false
     not-first s =
@@ -64,6 +68,6 @@ module _ (h : Head) (v : Valid h) (c : Call) where
         joined = turns .came;
         line = sound .acts h c v ∙ turns .line;
         in-places = turns .waited;
-        in-order = in-turn .came-in-turn (isSlot c) (λ n. flag (moments (h .core) (meant h c)) (kindOf n) && may later (kindOf n)) (machine .out h c) ws turns;
+        in-order = among-trans (turns .joined) (among-those (λ k. momentsOf (h .core) (meant h c) k && mayJoin later k));
         keeps = stays;
       }

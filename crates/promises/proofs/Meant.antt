@@ -13,13 +13,16 @@ use Rattle.waiting.specs.Places.{waiting}
 use Rattle.parts.specs.declared.Core.{Core}
 use Rattle.parts.specs.declared.Head.{Head}
 use Rattle.parts.specs.declared.Sensor.the-variants.{Missing, Raw}
-use Rattle.promises.specs.States.{Goal, operational, code, state, isIn, isInitialising, isLive, node, good, Reset, one, two, Command, noCommand, toEnter, toReset, commandOf}
-use Rattle.promises.specs.WaitingLine.{Kind, emergency, sdoReply, heartbeat, tpdo, number, kindOf, flag, may}
-use Rattle.promises.specs.Acts.{Act, send, acted, moments, timersAfter, settledTo, act}
+use Rattle.position.specs.Profile.{highestRaw}
+use Rattle.promises.specs.States.{CommandedState, operational, code, state, isIn, isInitialising, isLive, node}
+use Rattle.promises.specs.States.{good, Reset, Command, noCommand, toEnter, toReset, commandOf}
+use Rattle.promises.specs.WaitingLine.{Kind, emergency, sdoReply, heartbeat, tpdo, number, mayStay, mayJoin}
+use Rattle.promises.specs.Acts.{Act, send, acted, momentsOf, timersAfter, settledTo, act}
 use Rattle.promises.specs.Calls.{Call, receive, tick, sample, slot, commanded, meant, step, received, slotted}
 use Rattle.promises.specs.Valid.{waits, Valid}
 use Rattle.promises.specs.Meant.{Commands}
 use Rattle.promises.specs.Resets.{Restarted}
+use Rattle.promises.proofs.KindNumbers.{sent-as}
 use Rattle.promises.proofs.Hearing.{heard-by}
 use Rattle.promises.proofs.Waits.{waits-act, reply-waiting}
 use Rattle.promises.proofs.Slots.{sends-first}
@@ -33,10 +36,11 @@ module _ (h : Head) (f : Received) where
   pub commands : {k : Command} → Commands h f k → meant h (receive f) ≡ commanded (h .core) k
   commands m = rw (eq-eqb _ _ (m .hears .unrefused), m .hears .heard, eq-eqb _ _ (m .identifier), m .says)
 
-  pub enters : (g : Goal) → Commands h f (toEnter g) → received h f .head .core .nmt ≡ state g
+  pub enters : (g : CommandedState) → Commands h f (toEnter g) → received h f .head .core .nmt ≡ state g
   enters g m =
       ap (λ c. c .nmt) (core-step h (receive f) ∙ ap (acted (h .core)) (commands m))
-      ∙ by (λ a. acted (h .core) a .nmt ≡ state g) (isIn g (h .core)) (λ e. ap (λ n. record { code = n }) (eqb-true (h .core .nmt .code) (code g) e)) (λ _. refl)
+      ∙ by (λ a. acted (h .core) a .nmt ≡ state g) (isIn g (h .core))
+      (λ e. ap (λ n. record { code = n }) (eqb-true (h .core .nmt .code) (code g) e)) (λ _. refl)
 
   pub resets : (r : Reset) → Commands h f (toReset r) → Restarted r (h .core) (received h f .head .core)
   resets r m =
@@ -78,10 +82,10 @@ module _ (h : Head) (v : Valid h) (w : waits h sdoReply ≡ true) where
       unserved = rw (reply-waiting h v, w)
   reply-stays tick = by (Same (h .core)) (isInitialising (h .core)) (λ _. refl) (λ _. refl)
   reply-stays (sample Missing) = refl
-  reply-stays (sample (Raw r)) = by (Same (h .core)) (ltb 1048575 r) (λ _. refl) (λ _. refl)
+  reply-stays (sample (Raw r)) = by (Same (h .core)) (ltb highestRaw r) (λ _. refl) (λ _. refl)
   reply-stays slot =
       by (Same (h .core)) (isInitialising (h .core)) (λ _. refl)
-      (λ _. by (Same (h .core)) (eqb (first (h .line)) 0) (λ _. refl) (λ _. reply-sent (h .core) (kindOf (first (h .line)))))
+      (λ _. sent-as (Same (h .core)) (first (h .line)) refl (reply-sent (h .core)))
 
   pub reply-fixed : (x : Call) → step h x .core .reply ≡ h .core .reply
   reply-fixed x = ap (λ c. c .reply) (core-step h x) ∙ reply-stays x
@@ -93,14 +97,14 @@ beq-self false = refl
 -- a slot that sends
 module _ (h : Head) (v : Valid h) (i : isInitialising (h .core) ≡ false) where
   -- what is sent does not join in the same call
-  sent-rests : (k : Kind) → (flag (moments (h .core) (send k)) k && may (acted (h .core) (send k)) k) ≡ false
+  sent-rests : (k : Kind) → (momentsOf (h .core) (send k) k && mayJoin (acted (h .core) (send k)) k) ≡ false
   sent-rests emergency = rw (beq-self (good (h .core))) (simp and-false)
   sent-rests sdoReply = refl
   sent-rests heartbeat = refl
-  sent-rests (tpdo one) = refl
-  sent-rests (tpdo two) = refl
+  sent-rests (tpdo w) = refl
 
   pub leaves : (k : Kind) → first (waiting (h .line)) ≡ number k → waits (slotted h .head) k ≡ false
   leaves k e =
       let c = h .core in
-      rw (sends-first h v i k e, waits-act true h (send k) v k, eq-eqb _ _ e, sent-rests k) (and-false (not (may c k && not (may (acted c (send k)) k))))
+      rw (sends-first h v i k e, waits-act true h (send k) v k, eq-eqb _ _ e, sent-rests k)
+      (and-false (not (mayStay c k && not (mayStay (acted c (send k)) k))))

@@ -10,7 +10,7 @@ use borrow.Author.Tests.{eqb-true, eqb-false, ne-eqb, leb-true, le-leb, not-true
 use Rattle.cases.specs.Tests.{within}
 use Rattle.cases.proofs.Cases.{by, test, both, true-false}
 use Rattle.can.specs.declared.Received.{Received}
-use Rattle.entries.specs.declared.Communication.{Communication}
+use Rattle.position.specs.Profile.{highestRaw}
 use Rattle.entries.specs.declared.Pdo.{Pdo}
 use Rattle.dictionary.specs.Valid.{ValidPdo}
 use Rattle.sdo.specs.Request.{aborting}
@@ -19,19 +19,23 @@ use Rattle.sdo.proofs.Laws.{laws as sdo-laws}
 use Rattle.waiting.specs.Line.{first}
 use Rattle.parts.specs.declared.Core.{Core}
 use Rattle.parts.specs.declared.Head.{Head}
-use Rattle.parts.specs.declared.Timers.{Timers}
 use Rattle.parts.specs.declared.Answer.{Answer}
 use Rattle.parts.specs.declared.Sensor.the-variants.{Missing, Raw}
-use Rattle.promises.specs.States.{Goal, operational, stopped, preOperational, isIn, state, isInitialising, communication, Which, one, two, pdo, clock}
-use Rattle.promises.specs.WaitingLine.{Kind, emergency, sdoReply, heartbeat, tpdo, flag, flags, may}
-use Rattle.promises.specs.Timers.{completes, synchronous, eventDue, syncDue}
-use Rattle.promises.specs.Acts.{Act, nothing, enter, reset, boot, idle, send, take, lose, time, sync, serve, acted, entryDue, entryMoments, timeMoments, syncMoments, requestMoments, moments}
+use Rattle.promises.specs.States.{operational, stopped, preOperational, isIn, isInitialising}
+use Rattle.promises.specs.States.{communication, PdoNumber, one, two, clock}
+use Rattle.promises.specs.WaitingLine.{Kind, emergency, sdoReply, heartbeat, tpdo, mayStay, mayJoin}
+use Rattle.promises.specs.Timers.{completes, synchronous}
+use Rattle.promises.specs.Acts.{Act, nothing, enter, reset, boot, idle, send, take, lose, time}
+use Rattle.promises.specs.Acts.{sync, serve, acted, emergencyOnly, momentsOf}
 use Rattle.promises.specs.Calls.{Call, receive, tick, sample, slot, isSlot, meant, step}
 use Rattle.promises.specs.Valid.{waits, Valid}
 use Rattle.promises.specs.Meant.{client-abort, dueTo}
 use Rattle.promises.specs.Histories.{after, PowerUp, powered}
 use Rattle.promises.specs.Gap.{alerts}
-use Rattle.promises.specs.Moments.{countBy, since, Counts, countsAfter, Ready, OnEvents, OnSyncs, pdoOf, beatsAnew, beatCounts, ticksAnew, tickCounts, syncsAnew, synchronises, Begins, alerting, replies, beats, enters, elapses, syncs, Moments}
+use Rattle.promises.specs.Moments.{countBy, since, Counts, countsAfter, Ready, OnEvents, OnSyncs, pdoOf}
+use Rattle.promises.specs.Moments.{beatsAnew, beatCounts, ticksAnew, tickCounts, syncsAnew, synchronises}
+use Rattle.promises.specs.Moments.{Begins, alerting, replies, beats, enters, elapses, syncs, Moments}
+use Rattle.promises.proofs.KindNumbers.{sent-as}
 use Rattle.promises.proofs.Waits.{sends, waits-act}
 use Rattle.promises.proofs.States.{not-operational}
 use Rattle.promises.proofs.Valid.{valid-step}
@@ -44,38 +48,20 @@ use Rattle.promises.proofs.Tested.{is-written, is-entry, is-sync, enter
 use Rattle.promises.proofs.Beats.{Beats, beats-step}
 use Rattle.promises.proofs.Clocked.{Ticks, Syncs, ticks-step, syncs-step}
 
--- A kind that did not wait and now does had its moment, and may: y and z whether it may before and after, s whether it is not sent, w whether it waited.
-had-moment : (m y z s w : Bool) → w ≡ false → ((m && z) || (not (y && not z) && (s && w))) ≡ true → (m ≡ true) × (z ≡ true)
-had-moment m y z s true n e = true-false n
-had-moment m y z s false n e = both m z (sym (or-false (m && z)) ∙ ap (λ t. m && z || t) (sym none) ∙ e)
+-- A kind that did not wait and now does had its moment, and may join: m and j; s whether it stays and is not sent, w whether it waited.
+had-moment : (m j t s w : Bool) → w ≡ false → ((m && j) || (t && (s && w))) ≡ true → (m ≡ true) × (j ≡ true)
+had-moment m j t s true n e = true-false n
+had-moment m j t s false n e = both m j (sym (or-false (m && j)) ∙ ap (λ u. m && j || u) (sym none) ∙ e)
   where
-    none : (not (y && not z) && (s && false)) ≡ false
-    none = rw (and-false s) (and-false (not (y && not z)))
-
--- the moments of a PDO
-flag-entry : (s : Communication) (g : Goal) (w : Which) → flag (entryMoments s (state g)) (tpdo w) ≡ entryDue (state g) (pdo s w)
-flag-entry s g one = refl
-flag-entry s g two = refl
-
-flag-time : (s : Communication) (t : Timers) (w : Which) → flag (timeMoments s t) (tpdo w) ≡ eventDue (pdo s w) (clock t w)
-flag-time s t one = refl
-flag-time s t two = refl
-
-flag-sync : (s : Communication) (t : Timers) (w : Which) → flag (syncMoments s t) (tpdo w) ≡ syncDue (pdo s w) (clock t w)
-flag-sync s t one = refl
-flag-sync s t two = refl
-
-flag-request : (w : Which) → flag requestMoments (tpdo w) ≡ false
-flag-request one = refl
-flag-request two = refl
+    none : (t && (s && false)) ≡ false
+    none = rw (and-false s) (and-false t)
 
 -- where it is no kind's moment but the emergency's
-no-moment : (e : Bool) (k : Kind) → alerts k ≡ false → flag (flags e false false false false) k ≡ false
-no-moment e emergency o = true-false o
-no-moment e sdoReply o = refl
-no-moment e heartbeat o = refl
-no-moment e (tpdo one) o = refl
-no-moment e (tpdo two) o = refl
+no-moment : (k : Kind) → alerts k ≡ false → emergencyOnly k ≡ false
+no-moment emergency o = true-false o
+no-moment sdoReply o = refl
+no-moment heartbeat o = refl
+no-moment (tpdo w) o = refl
 
 -- the types of a PDO
 module _ (p : Pdo) where
@@ -87,7 +73,8 @@ module _ (p : Pdo) where
       let t = p .transmission in
       let late : within 254 255 t ≡ true = rw e at (v .transmission) in
       let u = both (leb 254 t) (leb t 255) late in
-      test (eqb t 254) (λ y. inl (eqb-true t 254 y)) (λ y. inr (omega (arith, leb-true 254 t (u .0), leb-true t 255 (u .1), eqb-false t 254 y)))
+      test (eqb t 254) (λ y. inl (eqb-true t 254 y))
+      (λ y. inr (omega (arith, leb-true 254 t (u .0), leb-true t 255 (u .1), eqb-false t 254 y)))
 
   on-syncs : OnSyncs p → synchronous p ≡ true
   on-syncs e = rw (le-leb 1 (p .transmission) (e .0), le-leb (p .transmission) 240 (e .1))
@@ -98,70 +85,76 @@ module _ (p : Pdo) where
 -- what the calls have counted is what the timers have, as far as a kind can join
 record Kept (c : Core) (n : Counts) : Type 0 where
   pub beats : Beats c (n .beats)
-  pub ticks : (w : Which) → Ticks w c (n .ticks w)
-  pub syncs : (w : Which) → Syncs w c (n .syncs w)
+  pub ticks : (w : PdoNumber) → Ticks w c (n .ticks w)
+  pub syncs : (w : PdoNumber) → Syncs w c (n .syncs w)
 
 module _ (h : Head) (n : Counts) (v : Valid h) (kept : Kept (h .core) n) where
   abbrev c : Core
   c = h .core
 
-  joined : (x : Call) {a : Act} (k : Kind) → meant h x ≡ a → flag (moments c a) k ≡ true → may (acted c a) k ≡ true → waits (step h x) k ≡ true
+  joined : (x : Call) {a : Act} (k : Kind) → meant h x ≡ a → momentsOf c a k ≡ true → mayJoin (acted c a) k ≡ true
+      → waits (step h x) k ≡ true
   joined x {a} k e m y = rw (e, waits-act (isSlot x) h a v k, m, y)
 
   started : isIn operational c ≡ true → isInitialising c ≡ false
   started o = test (isInitialising c) (λ i. true-false (sym o ∙ not-operational c i)) (λ i. i)
 
-  ready-may : (w : Which) → isIn operational c ≡ true → Ready h w → may c (tpdo w) ≡ true
+  ready-may : (w : PdoNumber) → isIn operational c ≡ true → Ready h w → mayJoin c (tpdo w) ≡ true
   ready-may w o r = rw (o, r .is-on, r .is-good)
 
   joins : (x : Call) (k : Kind) → Begins h n x k → waits (step h x) k ≡ true
   joins x emergency (alerting a) = valid-step h x v .urgent (rw (a .live, a .is-on, a .uninhibited, a .differs))
   joins (receive f) sdoReply (replies r a) =
-      let m : meant h (receive f) ≡ serve (answer (f .bytes) (dueTo h f)) = requests h f v r ∙ rw (sdo-laws (c .device) (isIn operational c) (f .bytes) .replied, a) in
+      let m : meant h (receive f) ≡ serve (answer (f .bytes) (dueTo h f)) =
+      requests h f v r ∙ rw (sdo-laws (c .device) (isIn operational c) (f .bytes) .replied, a) in
       joined (receive f) sdoReply m refl (r .live)
   joins tick heartbeat (beats i e) =
       let m : meant h tick ≡ time = rw i in
-      joined tick heartbeat m (in-turn _ _ _ (kept .beats i) e) (rw (i, ne-eqb (communication c .heartbeat) 0 (λ z. omega (arith, z, e .some))))
+      joined tick heartbeat m (in-turn _ _ _ (kept .beats i) e)
+      (rw (i, ne-eqb (communication c .heartbeat) 0 (λ z. omega (arith, z, e .some))))
   joins (receive f) (tpdo w) (enters m o r t) =
-      joined (receive f) (tpdo w) (entered h f (m, o)) (flag-entry (communication c) operational w ∙ rw (on-events (pdoOf h w) t)) (rw (r .is-on, r .is-good))
+      joined (receive f) (tpdo w) (entered h f (m, o)) (rw (on-events (pdoOf h w) t)) (rw (r .is-on, r .is-good))
   joins tick (tpdo w) (elapses o r t e) =
       let m : meant h tick ≡ time = rw (started o) in
-      joined tick (tpdo w) m (flag-time (communication c) (c .timers) w ∙ rw (on-events (pdoOf h w) t) (in-turn _ _ _ (kept .ticks w o) e)) (ready-may w o r)
+      joined tick (tpdo w) m (rw (on-events (pdoOf h w) t) (in-turn _ _ _ (kept .ticks w o) e)) (ready-may w o r)
   joins (receive f) (tpdo w) (syncs s r t e) =
       let y = on-syncs (pdoOf h w) t in
       let o = s .operational in
       joined (receive f) (tpdo w) (synchronised h f s)
-      (flag-sync (communication c) (c .timers) w ∙ rw y (in-turn _ _ _ (kept .syncs w o (r .is-on) y) e))
+      (rw y (in-turn _ _ _ (kept .syncs w o (r .is-on) y) e))
       (ready-may w o r)
 
   -- and the other way
-  has-joined : (x : Call) (k : Kind) → waits h k ≡ false → waits (step h x) k ≡ true → (flag (moments c (meant h x)) k ≡ true) × (may (acted c (meant h x)) k ≡ true)
+  has-joined : (x : Call) (k : Kind) → waits h k ≡ false → waits (step h x) k ≡ true
+      → (momentsOf c (meant h x) k ≡ true) × (mayJoin (acted c (meant h x)) k ≡ true)
   has-joined x k n y =
       let a = meant h x in
-      had-moment (flag (moments c a) k) (may c k) (may (acted c a) k) (not (sends (isSlot x) h k)) (waits h k) n (sym (waits-act (isSlot x) h a v k) ∙ y)
+      had-moment (momentsOf c a k) (mayJoin (acted c a) k) (not (mayStay c k && not (mayStay (acted c a) k))) (not (sends (isSlot x) h k))
+      (waits h k)
+      n (sym (waits-act (isSlot x) h a v k) ∙ y)
 
   abbrev Joins : Call → Kind → Act → Type 0
-  Joins x k a = flag (moments c a) k ≡ true → may (acted c a) k ≡ true → Begins h n x k
+  Joins x k a = momentsOf c a k ≡ true → mayJoin (acted c a) k ≡ true → Begins h n x k
 
   never : {A : Type 0} {b : Bool} → b ≡ true → b ≡ false → A
   never y e = true-false (sym y ∙ e)
 
-  valid-pdo : (w : Which) → ValidPdo (pdoOf h w)
+  valid-pdo : (w : PdoNumber) → ValidPdo (pdoOf h w)
   valid-pdo one = v .device .settings .communication .pdo1
   valid-pdo two = v .device .settings .communication .pdo2
 
   by-frame : (f : Received) (a : Act) → Cause h f a → meant h (receive f) ≡ a → (k : Kind) → alerts k ≡ false → Joins (receive f) k a
-  by-frame f nothing x e k o m y = never m (no-moment false k o)
+  by-frame f nothing x e k o m y = true-false (sym m)
   by-frame f (enter g) x e emergency o m y = true-false o
   by-frame f (enter g) x e sdoReply o m y = true-false (sym m)
   by-frame f (enter g) x e heartbeat o m y = true-false (sym m)
   by-frame f (enter operational) x e (tpdo w) o m y =
       let s = shows (acted c (enter operational)) w y in
-      let t = not-true (synchronous (pdoOf h w)) (sym (flag-entry (communication c) operational w) ∙ m) in
+      let t = not-true (synchronous (pdoOf h w)) m in
       enters (x .0) (x .1) (record { is-on = s .is-on; is-good = s .is-good }) (events (pdoOf h w) (valid-pdo w) t)
-  by-frame f (enter stopped) x e (tpdo w) o m y = never m (flag-entry (communication c) stopped w)
-  by-frame f (enter preOperational) x e (tpdo w) o m y = never m (flag-entry (communication c) preOperational w)
-  by-frame f (reset r) x e k o m y = never m (no-moment true k o)
+  by-frame f (enter stopped) x e (tpdo w) o m y = true-false (sym m)
+  by-frame f (enter preOperational) x e (tpdo w) o m y = true-false (sym m)
+  by-frame f (reset r) x e k o m y = never m (no-moment k o)
   by-frame f boot x e k o m y = absurd x
   by-frame f idle x e k o m y = absurd x
   by-frame f (send j) x e k o m y = absurd x
@@ -175,16 +168,18 @@ module _ (h : Head) (n : Counts) (v : Valid h) (kept : Kept (h .core) n) where
       let p = pdoOf h w in
       let k = clock (c .timers) w in
       let s = shows c w y in
-      let d = both (synchronous p) (completes (p .transmission) (k .syncs)) (sym (flag-sync (communication c) (c .timers) w) ∙ m) in
+      let d = both (synchronous p) (completes (p .transmission) (k .syncs)) m in
       syncs x (record { is-on = s .is-on; is-good = s .is-good }) (syncs-on p (d .0))
       (its-turn _ _ _ (kept .syncs w (s .operates) (s .is-on) (d .0)) (d .1))
   by-frame f (serve s) x e emergency o m y = true-false o
-  by-frame f (serve s) x e sdoReply o m y = replies (x .0) (test (aborting (f .bytes)) (λ t. never (ap replying e) (ap replying (unmeant h f v (client-abort (x .0 .identifier) t)))) (λ t. t))
+  by-frame f (serve s) x e sdoReply o m y =
+      replies (x .0) (test (aborting (f .bytes))
+      (λ t. never (ap replying e) (ap replying (unmeant h f v (client-abort (x .0 .identifier) t)))) (λ t. t))
     where
       replying : Act → Bool
-      replying a = flag (moments c a) sdoReply
+      replying a = momentsOf c a sdoReply
   by-frame f (serve s) x e heartbeat o m y = true-false (sym m)
-  by-frame f (serve s) x e (tpdo w) o m y = never m (flag-request w)
+  by-frame f (serve s) x e (tpdo w) o m y = true-false (sym m)
 
   by-tick : isInitialising c ≡ false → (k : Kind) → alerts k ≡ false → Joins tick k time
   by-tick i emergency o m y = true-false o
@@ -194,25 +189,32 @@ module _ (h : Head) (n : Counts) (v : Valid h) (kept : Kept (h .core) n) where
       let p = pdoOf h w in
       let k = clock (c .timers) w in
       let s = shows c w y in
-      let d = both (not (synchronous p)) (completes (p .event) (k .ticks)) (sym (flag-time (communication c) (c .timers) w) ∙ m) in
+      let d = both (not (synchronous p)) (completes (p .event) (k .ticks)) m in
       elapses (s .operates) (record { is-on = s .is-on; is-good = s .is-good }) (events p (valid-pdo w) (not-true _ (d .0)))
       (its-turn _ _ _ (kept .ticks w (s .operates)) (d .1))
 
   -- any but the emergency
   by-call : (x : Call) (k : Kind) → alerts k ≡ false → Joins x k (meant h x)
   by-call (receive f) k o = by-frame f (meant h (receive f)) (cause h f v) refl k o
-  by-call tick k o = by (Joins tick k) (isInitialising c) (λ _ m _. never m (no-moment false k o)) (λ i. by-tick i k o)
-  by-call (sample Missing) k o = λ m _. never m (no-moment true k o)
-  by-call (sample (Raw r)) k o = by (Joins (sample (Raw r)) k) (ltb 1048575 r) (λ _ m _. never m (no-moment false k o)) (λ _ m _. never m (no-moment true k o))
+  by-call tick k o = by (Joins tick k) (isInitialising c) (λ _ m _. true-false (sym m)) (λ i. by-tick i k o)
+  by-call (sample Missing) k o = λ m _. never m (no-moment k o)
+  by-call (sample (Raw r)) k o =
+      by (Joins (sample (Raw r)) k) (ltb highestRaw r) (λ _ m _. true-false (sym m)) (λ _ m _. never m (no-moment k o))
   by-call slot k o =
-      by (Joins slot k) (isInitialising c) (λ _ m _. never m (no-moment true k o))
-      (λ _. by (Joins slot k) (eqb (first (h .line)) 0) (λ _ m _. never m (no-moment true k o)) (λ _ m _. never m (no-moment true k o)))
+      by (Joins slot k) (isInitialising c) (λ _ m _. never m (no-moment k o))
+      (λ _. sent-as (Joins slot k) (first (h .line)) (λ m _. never m (no-moment k o)) (λ _ m _. never m (no-moment k o)))
 
   only-then : (x : Call) (k : Kind) → waits h k ≡ false → waits (step h x) k ≡ true → Begins h n x k
   only-then x emergency w y = begins-alert (alerts-so (step h x .core) (valid-step h x v .only emergency y))
     where
       begins-alert : Alerts (step h x .core) → Begins h n x emergency
-      begins-alert s = alerting (record { live = s .lives; is-on = s .is-on; uninhibited = eqb-true (step h x .core .timers .inhibit) 0 (s .rested); differs = not-true _ (s .differs) })
+      begins-alert s =
+          alerting (record {
+            live = s .lives;
+            is-on = s .is-on;
+            uninhibited = eqb-true (step h x .core .timers .inhibit) 0 (s .rested);
+            differs = not-true _ (s .differs);
+          })
   only-then x sdoReply w y = let m = has-joined x sdoReply w y in by-call x sdoReply refl (m .0) (m .1)
   only-then x heartbeat w y = let m = has-joined x heartbeat w y in by-call x heartbeat refl (m .0) (m .1)
   only-then x (tpdo u) w y = let m = has-joined x (tpdo u) w y in by-call x (tpdo u) refl (m .0) (m .1)
@@ -222,7 +224,8 @@ kept-since : (anew counts : Head → Call → Bool) (P : Core → ℕ → Type 0
     → ((h : Head) (n : ℕ) → Valid h → (x : Call) → P (h .core) n → P (step h x .core) (countBy anew counts h x n))
     → (cs : List Call) (h : Head) (n : ℕ) → Valid h → P (h .core) n → P (after h cs .core) (since anew counts h cs n)
 kept-since anew counts P next [] h n v r = r
-kept-since anew counts P next (x ∷ cs) h n v r = kept-since anew counts P next cs (step h x) (countBy anew counts h x n) (valid-step h x v) (next h n v x r)
+kept-since anew counts P next (x ∷ cs) h n v r =
+    kept-since anew counts P next cs (step h x) (countBy anew counts h x n) (valid-step h x v) (next h n v x r)
 
 starts : (p : PowerUp) → isInitialising (powered p .core) ≡ true
 starts p = by (λ (a : Answer). isInitialising (a .head .core) ≡ true) (within 1 127 (p .number)) (λ _. refl) (λ _. refl)
@@ -232,9 +235,14 @@ counts-kept p cs =
     let v = valid-powered p in
     let idle-yet = not-operational (powered p .core) (starts p) in
     record {
-      beats = kept-since beatsAnew beatCounts Beats (λ h n w x. beats-step h n w x) cs (powered p) 0 v (λ i. true-false (sym (starts p) ∙ i));
-      ticks = λ w. kept-since (ticksAnew w) tickCounts (Ticks w) (λ h n u x. ticks-step w h n u x) cs (powered p) 0 v (λ o. true-false (sym o ∙ idle-yet));
-      syncs = λ w. kept-since (syncsAnew w) synchronises (Syncs w) (λ h n u x. syncs-step w h n u x) cs (powered p) 0 v (λ o. true-false (sym o ∙ idle-yet));
+      beats =
+          kept-since beatsAnew beatCounts Beats (λ h n w x. beats-step h n w x) cs (powered p) 0 v (λ i. true-false (sym (starts p) ∙ i));
+      ticks =
+          λ w. kept-since (ticksAnew w) tickCounts (Ticks w) (λ h n u x. ticks-step w h n u x) cs (powered p) 0 v
+          (λ o. true-false (sym o ∙ idle-yet));
+      syncs =
+          λ w. kept-since (syncsAnew w) synchronises (Syncs w) (λ h n u x. syncs-step w h n u x) cs (powered p) 0 v
+          (λ o. true-false (sym o ∙ idle-yet));
     }
 
 pub moments-so : (p : PowerUp) (cs : List Call) → Moments p cs

@@ -7,6 +7,7 @@ use Rattle.can.specs.declared.Received.{Received}
 use Rattle.parts.specs.declared.Nmt.{Nmt}
 use Rattle.parts.specs.declared.Head.{Head}
 use Rattle.parts.specs.declared.Sensor.the-variants.{Missing, Raw}
+use Rattle.position.specs.Profile.{highestRaw}
 use Rattle.promises.specs.States.{initialising, isInitialising}
 use Rattle.promises.specs.WaitingLine.{Kind, emergency, sdoReply, heartbeat, tpdo}
 use Rattle.promises.specs.Acts.{Act, nothing, enter, reset, boot, idle, send, take, lose, time, sync, serve, acted}
@@ -56,7 +57,7 @@ module _ (h : Head) (v : Valid h) where
   only-so (receive f) = rw (core-step h (receive f)) (by-frame f (meant h (receive f)) (cause h f v))
   only-so tick = of-act tick (by (λ a. After a ≡ h .core .nmt) (isInitialising (h .core)) (λ _. refl) (λ _. refl))
   only-so (sample Missing) = of-act (sample Missing) refl
-  only-so (sample (Raw r)) = of-act (sample (Raw r)) (by (λ a. After a ≡ h .core .nmt) (ltb 1048575 r) (λ _. refl) (λ _. refl))
+  only-so (sample (Raw r)) = of-act (sample (Raw r)) (by (λ a. After a ≡ h .core .nmt) (ltb highestRaw r) (λ _. refl) (λ _. refl))
   only-so slot = rw (core-step h slot) (by-slot (meant h slot) (at-slot h v))
 
   entered : (c : Call) (s : Nmt) → Enters h c s → step h c .core .nmt ≡ s

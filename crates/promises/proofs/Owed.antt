@@ -16,16 +16,20 @@ use Rattle.waiting.specs.Places.{waiting}
 use Rattle.waiting.proofs.After.{has-append}
 use Rattle.parts.specs.declared.Head.{Head}
 use Rattle.parts.specs.declared.Sensor.the-variants.{Missing, Raw}
-use Rattle.promises.specs.States.{operational, stopped, preOperational, isInitialising, isLive, node, Command, noCommand, toEnter, toReset, commandOf}
+use Rattle.position.specs.Profile.{highestRaw}
+use Rattle.promises.specs.States.{operational, stopped, preOperational, isInitialising, isLive}
+use Rattle.promises.specs.States.{node, Command, noCommand, toEnter, toReset, commandOf}
 use Rattle.promises.specs.WaitingLine.{sdoReply, number}
 use Rattle.promises.specs.Acts.{Act, boot, idle, send, acted, frameBy}
 use Rattle.promises.specs.Calls.{Call, receive, tick, sample, slot, isSlot, meant, step, isFrame, frameIn, slotted}
 use Rattle.promises.specs.Valid.{waits, Valid}
 use Rattle.promises.specs.Meant.{Commands}
 use Rattle.promises.specs.Histories.{after}
-use Rattle.promises.specs.Service.{replyDue, isHeard, isRequest, isAnswered, sendsReply, takesReply, withdrawsReply, owedBy, owed, pending}
+use Rattle.promises.specs.Service.{replyDue, isHeard, isRequest, isAnswered, sendsReply}
+use Rattle.promises.specs.Service.{takesReply, withdrawsReply, owedBy, owed, pending}
 use Rattle.promises.specs.Withdrawals.{Withdrawal, resets, stops}
 use Rattle.promises.specs.FiveSlots.{Sends}
+use Rattle.promises.proofs.KindNumbers.{sent-as}
 use Rattle.promises.proofs.Waits.{sends, waits-act}
 use Rattle.promises.proofs.Valid.{valid-step}
 use Rattle.promises.proofs.Answers.{AtSlot, booting, idling, sending, at-slot}
@@ -62,12 +66,14 @@ same-pending false x r u e f = ap (λ (t : Bool). cond t (some u) none) e
 
 module _ (h : Head) (v : Valid h) where
   -- after a call by which it neither joins nor is sent, and that does not halt the head
-  same-replies : (c : Call) → JoinsNot (h .core) (meant h c) → (Halts (meant h c) → ⊥) → sends (isSlot c) h sdoReply ≡ false → pending (step h c) ≡ pending h
+  same-replies : (c : Call) → JoinsNot (h .core) (meant h c) → (Halts (meant h c) → ⊥) → sends (isSlot c) h sdoReply ≡ false
+      → pending (step h c) ≡ pending h
   same-replies c n l s =
       let z = isLive (acted (h .core) (meant h c)) in
       let w : waits (step h c) sdoReply ≡ waits h sdoReply =
       rw n at (waits-act (isSlot c) h (meant h c) v sdoReply)
-      ∙ stays-waiting (isLive (h .core)) z (sends (isSlot c) h sdoReply) (waits h sdoReply) (λ t. stays-live (h .core) (meant h c) l (v .only sdoReply t)) s in
+      ∙ stays-waiting (isLive (h .core)) z (sends (isSlot c) h sdoReply) (waits h sdoReply)
+      (λ t. stays-live (h .core) (meant h c) l (v .only sdoReply t)) s in
       same-pending (waits h sdoReply) (waits (step h c) sdoReply) (h .core .reply) (step h c .core .reply) w (λ t. reply-fixed h v t c)
 
   none-pending : (c : Call) → waits (step h c) sdoReply ≡ false → pending (step h c) ≡ none
@@ -92,14 +98,16 @@ module _ (h : Head) (v : Valid h) where
 
     untaken : withdrawsReply h f ≡ false → HaltedBy h (receive f) → ⊥
     untaken e (k, m, t) =
-        let w : withdrawsReply h f ≡ true = rw (eq-eqb _ _ (m .hears .unrefused), m .hears .heard, eq-eqb (f .identifier) 0x000 (m .identifier), m .says) t in
+        let w : withdrawsReply h f ≡ true =
+        rw (eq-eqb _ _ (m .hears .unrefused), m .hears .heard, eq-eqb (f .identifier) 0x000 (m .identifier), m .says) t in
         true-false (sym w ∙ e)
 
     joined : isAnswered h f ≡ true → pending (step h (receive f)) ≡ some (replyDue h f .bytes)
     joined a =
         let b = both (isRequest h f) (not (aborting (f .bytes))) a in
         let r = gets-what-is-due h f v (is-request h f .0 (b .0)) (not-true _ (b .1)) in
-        let w : waits (step h (receive f)) sdoReply ≡ true = rw (r .joins, has-append (number sdoReply) (r .ahead) (number sdoReply ∷ [])) (or-true (has (number sdoReply) (r .ahead))) in
+        let w : waits (step h (receive f)) sdoReply ≡ true =
+        rw (r .joins, has-append (number sdoReply) (r .ahead) (number sdoReply ∷ [])) (or-true (has (number sdoReply) (r .ahead))) in
         ap (λ (t : Bool). cond t (some (step h (receive f) .core .reply)) none) w ∙ ap some (r .bytes)
 
   not-first : sendsReply h ≡ false → eqb (first (waiting (h .line))) (number sdoReply) ≡ false
@@ -121,15 +129,17 @@ module _ (h : Head) (v : Valid h) where
   pending-step tick = same-replies tick (by (JoinsNot (h .core)) (isInitialising (h .core)) (λ _. refl) (λ _. refl)) (halted h v tick) refl
   pending-step (sample Missing) = same-replies (sample Missing) refl (halted h v (sample Missing)) refl
   pending-step (sample (Raw r)) =
-      same-replies (sample (Raw r)) (by (JoinsNot (h .core)) (ltb 1048575 r) (λ _. refl) (λ _. refl)) (halted h v (sample (Raw r))) refl
+      same-replies (sample (Raw r)) (by (JoinsNot (h .core)) (ltb highestRaw r) (λ _. refl) (λ _. refl)) (halted h v (sample (Raw r))) refl
   pending-step slot =
       by (λ (o : Option (List ℕ)). pending (step h slot) ≡ o) (sendsReply h)
       (λ s. none-pending slot (sent-gone h v slot sdoReply (replies-first h v s .0)))
       (λ n. same-replies slot
-      (by (JoinsNot (h .core)) (isInitialising (h .core)) (λ _. refl) (λ _. by (JoinsNot (h .core)) (eqb (first (h .line)) 0) (λ _. refl) (λ _. refl)))
+      (by (JoinsNot (h .core)) (isInitialising (h .core)) (λ _. refl)
+      (λ _. sent-as (JoinsNot (h .core)) (first (h .line)) refl (λ _. refl)))
       (halted h v slot)
       (not-first n))
 
 pub pending-after : (cs : List Call) (h : Head) → Valid h → pending (after h cs) ≡ owed h (pending h) cs
 pending-after [] h v = refl
-pending-after (c ∷ cs) h v = pending-after cs (step h c) (valid-step h c v) ∙ ap (λ (o : Option (List ℕ)). owed (step h c) o cs) (pending-step h v c)
+pending-after (c ∷ cs) h v =
+    pending-after cs (step h c) (valid-step h c v) ∙ ap (λ (o : Option (List ℕ)). owed (step h c) o cs) (pending-step h v c)

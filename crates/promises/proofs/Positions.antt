@@ -1,4 +1,5 @@
--- The position is 01's formula, an accepted preset makes it read the preset, and a position frame carries what 6004h reads: `positioned`, of specs/Readings.antt.
+-- The position is 01's formula, an accepted preset makes it read the preset, and a
+-- position frame carries what 6004h reads: `positioned`, of specs/Readings.antt.
 use Prim.Native.Nat.{ℕ, _<_}
 use native.Mathlib.Omega.{arith}
 use lib.Dec.{eqb}
@@ -13,10 +14,12 @@ use Rattle.position.specs.declared.Profile.{Profile}
 use Rattle.position.specs.Position.{position}
 use Rattle.position.proofs.Laws.{laws as position-laws}
 use Rattle.entries.specs.declared.Device.{Device}
+use Rattle.entries.specs.Keys.{presetKey, operatingKey, rangeKey, stepKey}
 use Rattle.dictionary.specs.declared.read.Shown.{Shown}
 use Rattle.dictionary.specs.declared.read.Shown.the-variants.{Blank, Number}
 use Rattle.cases.specs.Tests.{within}
 use Rattle.dictionary.specs.Writes.{rescales, written}
+use Rattle.dictionary.specs.Effects.{effects, anew}
 use Rattle.sdo.specs.Reply.{carriedOut}
 use Rattle.sdo.specs.Service.{Due, none, value, confirmation, abort, answer}
 use Rattle.parts.specs.declared.Core.{Core}
@@ -30,7 +33,6 @@ use Rattle.promises.specs.Valid.{waits, Valid}
 use Rattle.promises.specs.Meant.{dueTo, Writes}
 use Rattle.promises.specs.Histories.{after, Reachable}
 use Rattle.promises.specs.Gap.{isPosition, showsPosition}
-use Rattle.promises.specs.Effects.{effects, anew}
 use Rattle.promises.specs.Readings.{readsIn, profileOf, repositions, Moves, Unmoved, samples, writes, resets, Carries, Positioned}
 use Rattle.promises.proofs.Valid.{valid-step}
 use Rattle.promises.proofs.Causes.{writes as writes-so}
@@ -54,9 +56,9 @@ shows-good d e = ap (λ (g : Bool). some (cond (not g) Blank (Number (position (
 profile-kept : (d : Device) (k v : ℕ) → repositions k ≡ false → written d k v .settings .profile ≡ d .settings .profile
 unfolding written
 profile-kept d k v e =
-    let a = neither (rescales k) (eqb k 0x6003_00) e in
-    let b = neither (eqb k 0x6000_00 || eqb k 0x6002_00) (eqb k 0x6005_01) (a .0) in
-    let c = neither (eqb k 0x6000_00) (eqb k 0x6002_00) (b .0) in
+    let a = neither (rescales k) (eqb k presetKey) e in
+    let b = neither (eqb k operatingKey || eqb k rangeKey) (eqb k stepKey) (a .0) in
+    let c = neither (eqb k operatingKey) (eqb k rangeKey) (b .0) in
     rw (c .0, c .1, b .1, a .1)
 
 showing-kept : (d : Device) (k v : ℕ) → repositions k ≡ false → showing (written d k v) ≡ showing d
@@ -64,7 +66,8 @@ unfolding written
 showing-kept d k v e =
     ap (λ (p : Profile). some (shownAs p (d .reading))) (profile-kept d k v e)
 
-showing-due : (d : Device) (f : List ℕ) (y : Due) → ((k v : ℕ) → y ≡ confirmation k v → repositions k ≡ true → ⊥) → showing (carriedOut d (answer f y .effect)) ≡ showing d
+showing-due : (d : Device) (f : List ℕ) (y : Due) → ((k v : ℕ) → y ≡ confirmation k v → repositions k ≡ true → ⊥)
+    → showing (carriedOut d (answer f y .effect)) ≡ showing d
 showing-due d f none n = refl
 showing-due d f (value w x) n = refl
 showing-due d f (confirmation k v) n = test (repositions k) (λ m. absurd (n k v refl m)) (showing-kept d k v)
@@ -101,7 +104,11 @@ module _ (h : Head) (v : Valid h) where
       let d = h .core .device in
       let p = d .settings .profile in
       let below : position p (d .reading .raw) < 0x100000000 =
-      omega (arith, position-laws .positions p (d .reading .raw) (v .device .settings .profile) .below, v .device .settings .profile .high) in
+      omega (
+        arith,
+        position-laws .positions p (d .reading .raw) (v .device .settings .profile) .below,
+        v .device .settings .profile .high,
+      ) in
       record {
         which = which;
         identifier = refl;
@@ -115,17 +122,21 @@ module _ (h : Head) (v : Valid h) where
   carries : slotted h .waited ≡ true → within 0x181 0x57F (slotted h .frame .identifier) ≡ true → Carries h (slotted h .frame)
   carries = by-act (meant h slot) (at-slot h v)
     where
-      by-act : (a : Act) → AtSlot h a → let x = frameBy (h .core) a in isFrame x ≡ true → isPosition (frameIn x) ≡ true → Carries h (frameIn x)
+      by-act : (a : Act) → AtSlot h a → let x = frameBy (h .core) a in isFrame x ≡ true → isPosition (frameIn x) ≡ true
+          → Carries h (frameIn x)
       by-act boot (booting i) f b = true-false (sym b ∙ known-boot-up (node (h .core)) (h .core) refl (v .device) .position)
       by-act idle (idling i e) f b = true-false (sym f)
-      by-act (send k) (sending _ i e w) f b = carries-as k w (sym (known (node (h .core)) (h .core) refl (v .device) k (v .only k w) .position) ∙ b)
+      by-act (send k) (sending _ i e w) f b =
+          carries-as k w (sym (known (node (h .core)) (h .core) refl (v .device) k (v .only k w) .position) ∙ b)
 
 -- an accepted preset
-presets : (h : Head) → Reachable h → (f : Received) (x : ℕ) → Writes h f 0x6003_00 x → readsIn (received h f .head) 0x6004 0 ≡ some (Number x)
+presets : (h : Head) → Reachable h → (f : Received) (x : ℕ) → Writes h f presetKey x
+    → readsIn (received h f .head) 0x6004 0 ≡ some (Number x)
 presets h r f x w =
     let d = h .core .device in
     let o = isIn operational (h .core) in
-    served-rightly h r f (w .requests) .accepted 0x6003_00 x (w .accepted) .entries 0x6004 0 ∙ ap (anew (effects d o 0x6003_00 x) 0x6004_00) (position-shown d o)
+    served-rightly h r f (w .requests) .accepted presetKey x (w .accepted) .entries 0x6004 0
+    ∙ ap (anew (effects d o presetKey x) 0x6004_00) (position-shown d o)
 
 stays : (cs : List Call) (h : Head) → Valid h → Unmoved h cs → readsIn (after h cs) 0x6004 0 ≡ readsIn h 0x6004 0
 stays [] h v u = refl

@@ -11,6 +11,7 @@ use borrow.Author.Tests.{eqb-true, leb-false, ltb-false}
 use Rattle.cases.proofs.Cases.{by}
 use Rattle.position.specs.declared.Profile.{Profile}
 use Rattle.position.specs.Position.{position}
+use Rattle.position.specs.Profile.{highestRaw}
 use Rattle.entries.specs.declared.Device.{Device}
 use Rattle.entries.specs.declared.Reading.{Reading}
 use Rattle.entries.specs.declared.table.Found.the-variants.{At}
@@ -31,7 +32,8 @@ use Rattle.promises.specs.Valid.{Valid}
 use Rattle.promises.specs.Histories.{after, PowerUp, powered}
 use Rattle.promises.specs.Service.{replyDue}
 use Rattle.promises.specs.Gap.{isGoodSample}
-use Rattle.promises.specs.Readings.{readsIn, profileOf, sampleBy, lastSample, readingOf, shownPosition, shownRegister, dueShown, Tells}
+use Rattle.promises.specs.Readings.{readsIn, profileOf, sampleBy, lastSample, readingOf}
+use Rattle.promises.specs.Readings.{shownPosition, shownRegister, dueShown, Tells}
 use Rattle.promises.proofs.Valid.{valid-step}
 use Rattle.promises.proofs.Altered.{Altered, heard, timed, sent, refused, took, lost, restarted, served, carried, altered}
 use Rattle.promises.proofs.Histories.{at-power-up, valid-powered}
@@ -63,11 +65,13 @@ module _ (d : Device) (o : Bool) where
   unfolding table entries lookup shownAt
   registers-shown = (shows d o 0x1001 0 refl refl, shows d o 0x6503 0 refl refl)
 
-  read-due : (f : List ℕ) (p : ℕ) → reading f ≡ true → lookup (indexOf f) (subOf f) ≡ At p → due d o f ≡ dueShown (width (rowAt p)) (shownAt d o p)
+  read-due : (f : List ℕ) (p : ℕ) → reading f ≡ true → lookup (indexOf f) (subOf f) ≡ At p
+      → due d o f ≡ dueShown (width (rowAt p)) (shownAt d o p)
   unfolding due
   read-due f p r q = rw (q, eqb-true (top f) 2 r) (shown-due (width (rowAt p)) (shownAt d o p))
 
-  position-due : (f : List ℕ) → reading f ≡ true → indexOf f ≡ 0x6004 → subOf f ≡ 0 → due d o f ≡ dueShown 4 (shownAs (d .settings .profile) (d .reading))
+  position-due : (f : List ℕ) → reading f ≡ true → indexOf f ≡ 0x6004 → subOf f ≡ 0
+      → due d o f ≡ dueShown 4 (shownAs (d .settings .profile) (d .reading))
   position-due f r i j = read-due f 35 r (rw (i, j) position-place) ∙ rw (position-there .1, position-there .0)
 
 -- by the sample whose reading it is
@@ -83,7 +87,8 @@ blank-by : (p : Profile) (s : Sensor) → (some (shownPosition p s) ≡ some Bla
 blank-by p Missing = (λ _. refl, λ _. refl)
 blank-by p (Raw r) = (λ e. absurd (let z : _≡_ {A = ℕ} 0 1 = cc in omega arith), λ e. absurd (let z : _≡_ {A = ℕ} 0 1 = cc in omega arith))
 
-reading-by : (h : Head) (s : Sensor) (c : Call) (d : Device) → h .core .device .reading ≡ readingOf s → Altered h c d → d .reading ≡ readingOf (sampleBy s c)
+reading-by : (h : Head) (s : Sensor) (c : Call) (d : Device) → h .core .device .reading ≡ readingOf s → Altered h c d
+    → d .reading ≡ readingOf (sampleBy s c)
 reading-by h s _ _ e (heard f) = e
 reading-by h s _ _ e timed = e
 reading-by h s _ _ e sent = e
@@ -93,7 +98,8 @@ reading-by h s _ _ e lost = refl
 reading-by h s _ _ e (restarted f r x) = e
 reading-by h s _ _ e (served f x) = carried (h .core .device) (replyDue h f .effect) .1 ∙ e
 
-pub reading-step : (h : Head) → Valid h → (s : Sensor) (c : Call) → h .core .device .reading ≡ readingOf s → step h c .core .device .reading ≡ readingOf (sampleBy s c)
+pub reading-step : (h : Head) → Valid h → (s : Sensor) (c : Call) → h .core .device .reading ≡ readingOf s
+    → step h c .core .device .reading ≡ readingOf (sampleBy s c)
 reading-step h v s c e = reading-by h s c (step h c .core .device) e (altered h v c)
 
 reading-after : (cs : List Call) (h : Head) (s : Sensor) → Valid h → h .core .device .reading ≡ readingOf s
@@ -107,12 +113,14 @@ still-missing (receive f) e = refl
 still-missing tick e = refl
 still-missing (sample Missing) e = refl
 still-missing (sample (Raw r)) e =
-    by (λ (s : Sensor). readingOf s .good ≡ false) (ltb 1048575 r) (λ _. refl) (λ t. absurd (omega (arith, leb-false r 1048575 e, ltb-false 1048575 r t)))
+    by (λ (s : Sensor). readingOf s .good ≡ false) (ltb highestRaw r) (λ _. refl)
+    (λ t. absurd (omega (arith, leb-false r highestRaw e, ltb-false highestRaw r t)))
 still-missing slot e = refl
 
 pub stays-missing : (h : Head) → Valid h → (c : Call) → isGoodSample c ≡ false → good (h .core) ≡ false → good (step h c .core) ≡ false
 stays-missing h v c e g =
-    let missing : h .core .device .reading ≡ missingReading = ap₂ {C = Reading} (λ b r. record { good = b; raw = r }) g (v .device .raw-missing g) in
+    let missing : h .core .device .reading ≡ missingReading =
+    ap₂ {C = Reading} (λ b r. record { good = b; raw = r }) g (v .device .raw-missing g) in
     ap (λ (r : Reading). r .good) (reading-step h v Missing c missing) ∙ still-missing c e
 
 -- at power-up the reading is missing
@@ -123,8 +131,10 @@ tells-of : (h : Head) (s : Sensor) → h .core .device .reading ≡ readingOf s 
 tells-of h s e =
     let d = h .core .device in
     let o = isIn operational (h .core) in
-    let shown : shownAs (profileOf h) (d .reading) ≡ shownPosition (profileOf h) s = ap (shownAs (profileOf h)) e ∙ by-sample (profileOf h) s in
-    let register : Number (cond (not (d .reading .good)) 1 0) ≡ shownRegister s = ap (λ (r : Reading). Number (cond (not (r .good)) 1 0)) e ∙ register-by s in
+    let shown : shownAs (profileOf h) (d .reading) ≡ shownPosition (profileOf h) s =
+    ap (shownAs (profileOf h)) e ∙ by-sample (profileOf h) s in
+    let register : Number (cond (not (d .reading .good)) 1 0) ≡ shownRegister s =
+    ap (λ (r : Reading). Number (cond (not (r .good)) 1 0)) e ∙ register-by s in
     let reads-it : readsIn h 0x6004 0 ≡ some (shownPosition (profileOf h) s) = position-shown d o ∙ ap some shown in
     let blank = blank-by (profileOf h) s in
     record {
@@ -137,4 +147,5 @@ tells-of h s e =
     }
 
 pub tells : (p : PowerUp) (cs : List Call) → Tells (after (powered p) cs) (lastSample Missing cs)
-tells p cs = tells-of (after (powered p) cs) (lastSample Missing cs) (reading-after cs (powered p) Missing (valid-powered p) (reading-powered p))
+tells p cs =
+    tells-of (after (powered p) cs) (lastSample Missing cs) (reading-after cs (powered p) Missing (valid-powered p) (reading-powered p))

@@ -1,4 +1,5 @@
--- What was written is read until an accepted write or a reset: what an rw entry but 1003-0 reads is in the settings, by computation for the whole table.
+-- What was written is read until an accepted write or a reset: what an rw entry but
+-- 1003-0 reads is in the settings, by computation for the whole table.
 use Prim.Native.Nat.{ℕ}
 use lib.Dec.{eqb}
 use lib.ListN.{getD}
@@ -10,10 +11,12 @@ use borrow.Author.Tests.{ne-eqb}
 use Rattle.can.specs.declared.Received.{Received}
 use Rattle.entries.specs.declared.Device.{Device}
 use Rattle.entries.specs.Table.{Entry, entries, rowAt, isRw, key}
+use Rattle.entries.specs.Keys.{errorCountKey}
 use Rattle.dictionary.specs.declared.read.Shown.{Shown}
 use Rattle.dictionary.specs.declared.read.Shown.the-variants.{Blank, Number}
 use Rattle.dictionary.specs.Reads.{noEntry, shown, shownAt, readOf}
 use Rattle.dictionary.proofs.Columns.{at-place, row-of}
+use Rattle.dictionary.specs.Effects.{readBack}
 use Rattle.sdo.specs.Request.{indexOf, subOf}
 use Rattle.parts.specs.declared.Head.{Head}
 use Rattle.promises.specs.States.{operational, isIn}
@@ -21,7 +24,6 @@ use Rattle.promises.specs.Acts.{resetTo}
 use Rattle.promises.specs.Calls.{Call, receive, received}
 use Rattle.promises.specs.Meant.{Writes}
 use Rattle.promises.specs.Histories.{after, Reachable}
-use Rattle.promises.specs.Effects.{readBack}
 use Rattle.promises.specs.Readings.{readsIn}
 use Rattle.promises.specs.Resets.{Alters, None}
 use Rattle.promises.proofs.Valid.{valid-step}
@@ -31,7 +33,7 @@ use Rattle.promises.proofs.Kept.{settings-after}
 
 module _ (d e : Device) (o u : Bool) where
   abbrev isSetting : Entry → Bool
-  isSetting x = isRw (x .row) && not (eqb (key (x .row)) 0x1003_00)
+  isSetting x = isRw (x .row) && not (eqb (key (x .row)) errorCountKey)
 
   abbrev of : Device → Bool → Entry → Shown
   of d′ o′ x = cond (isSetting x) (shown x d′ o′) Blank
@@ -40,14 +42,17 @@ module _ (d e : Device) (o u : Bool) where
   unfolding entries
   settings-shown = refl
 
-  shown-alike : (p : ℕ) → isRw (rowAt p) ≡ true → (key (rowAt p) ≡ 0x1003_00 → ⊥) → d .settings ≡ e .settings → shownAt d o p ≡ shownAt e u p
+  shown-alike : (p : ℕ) → isRw (rowAt p) ≡ true → (key (rowAt p) ≡ errorCountKey → ⊥) → d .settings ≡ e .settings
+      → shownAt d o p ≡ shownAt e u p
   unfolding shownAt
   shown-alike p w n q =
       let x = getD entries p noEntry in
-      let is : isSetting x ≡ true = rw (rw (row-of p) at w, ne-eqb (key (x .row)) 0x1003_00 (rw (row-of p) at n)) in
-      rw is at (at-place (of d o) (of (resetTo e (d .settings)) u) entries noEntry p refl settings-shown) ∙ ap (λ s. shown x (resetTo e s) u) q
+      let is : isSetting x ≡ true = rw (rw (row-of p) at w, ne-eqb (key (x .row)) errorCountKey (rw (row-of p) at n)) in
+      rw is at (at-place (of d o) (of (resetTo e (d .settings)) u) entries noEntry p refl settings-shown)
+      ∙ ap (λ s. shown x (resetTo e s) u) q
 
-pub reads-on : (h : Head) → Reachable h → (f : Received) (k v : ℕ) → Writes h f k v → (k ≡ 0x1003_00 → ⊥) → (cs : List Call) → None Alters (received h f .head) cs
+pub reads-on : (h : Head) → Reachable h → (f : Received) (k v : ℕ) → Writes h f k v → (k ≡ errorCountKey → ⊥) → (cs : List Call)
+    → None Alters (received h f .head) cs
     → readsIn (after (received h f .head) cs) (indexOf (f .bytes)) (subOf (f .bytes)) ≡ some (Number (readBack k v))
 reads-on h x f k v w n cs a =
     let valid = valid-reachable h x in

@@ -16,7 +16,8 @@ use Rattle.promises.specs.WaitingLine.{sdoReply}
 use Rattle.promises.specs.Calls.{Call, receive, tick, sample, slot, step, slotted}
 use Rattle.promises.specs.Valid.{waits, Valid}
 use Rattle.promises.specs.Histories.{after, frames, sent, PowerUp, powered}
-use Rattle.promises.specs.Service.{isRequest, isAnswered, replyFrame, sendsReply, withdrawsReply, owedBy, owed, pending, answersBy, answeredIn, repliesIn, Answers}
+use Rattle.promises.specs.Service.{isRequest, isAnswered, replyFrame, sendsReply, withdrawsReply, owedBy}
+use Rattle.promises.specs.Service.{owed, pending, answersBy, answeredIn, repliesIn, Answers}
 use Rattle.promises.proofs.Valid.{valid-step}
 use Rattle.promises.proofs.Histories.{at-power-up, valid-after, valid-powered}
 use Rattle.promises.proofs.SameNode.{node-step, node-after}

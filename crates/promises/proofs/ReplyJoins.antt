@@ -1,4 +1,5 @@
--- The line after a service request: those whose condition the write ended are gone, the others keep their order, and the reply stands at the end.
+-- The line after a service request: those whose condition the write ended are
+-- gone, the others keep their order, and the reply stands at the end.
 use Prim.Native.Nat.{ℕ}
 use lib.Dec.{eqb}
 use mathlib.Core.Path.{_≡_, refl, sym, ap, ap₂, _∙_}
@@ -13,6 +14,7 @@ use Rattle.waiting.specs.Places.{waiting}
 use Rattle.waiting.proofs.Laws.{laws}
 use Rattle.waiting.proofs.Order.{join-is}
 use Rattle.waiting.proofs.After.{has-append, has-withdraws}
+use Rattle.entries.specs.Keys.{emergencyKey}
 use Rattle.dictionary.specs.Accepted.{on}
 use Rattle.dictionary.specs.Writes.{written}
 use Rattle.sdo.specs.declared.reply.Effect.the-variants.{Reply}
@@ -22,14 +24,14 @@ use Rattle.parts.specs.declared.Nmt.{Nmt}
 use Rattle.parts.specs.declared.Core.{Core}
 use Rattle.parts.specs.declared.Head.{Head}
 use Rattle.promises.specs.States.{live, isLive, communication, good}
-use Rattle.promises.specs.WaitingLine.{Kind, emergency, sdoReply, number, kindOf, those, mayAlert, may}
+use Rattle.promises.specs.WaitingLine.{Kind, emergency, sdoReply, number, those, mayAlert, isAlerting, mayStay}
 use Rattle.promises.specs.Acts.{serve, serving, requestMoments, goes, comes, act}
 use Rattle.promises.specs.Valid.{waits, Valid}
 use Rattle.promises.specs.Effects.{takes, brings}
-use Rattle.promises.proofs.Waits.{has-those, holds-act}
+use Rattle.promises.proofs.KindNumbers.{kindAt, number-is, has-those}
+use Rattle.promises.proofs.Waits.{holds-act}
 use Rattle.promises.proofs.Valid.{emergency-exactly}
 use Rattle.promises.proofs.Conditions.{ends}
-use Rattle.promises.proofs.Slots.{number-is}
 
 pub none-withdrawn : (ks : List ℕ) → withdraws [] ks ≡ []
 none-withdrawn [] = refl
@@ -44,11 +46,12 @@ first-withdrawn x xs (k ∷ ks) =
     (λ e. rw (ne-eqb x k (λ q. eqb-false k x e (sym q)), e) (first-withdrawn x (withdraw xs k) ks))
 
 -- Two lists withdraw the same from a line if they agree on the kinds that wait in it.
-withdrawn-alike : (ws ks ls : List ℕ) → Kinds places ws → ((k : Kind) → has (number k) ws ≡ true → has (number k) ks ≡ has (number k) ls) → withdraws ws ks ≡ withdraws ws ls
+withdrawn-alike : (ws ks ls : List ℕ) → Kinds places ws → ((k : Kind) → has (number k) ws ≡ true → has (number k) ks ≡ has (number k) ls)
+    → withdraws ws ks ≡ withdraws ws ls
 withdrawn-alike [] ks ls h a = none-withdrawn ks ∙ sym (none-withdrawn ls)
 withdrawn-alike (x ∷ xs) ks ls h a =
     let its-number = number-is x (h .0) (h .1) in
-    let first-too : has x ks ≡ has x ls = rw its-number at (a (kindOf x) (rw (its-number, eq-eqb x x refl))) in
+    let first-too : has x ks ≡ has x ls = rw its-number at (a (kindAt x) (rw (its-number, eq-eqb x x refl))) in
     let others = withdrawn-alike xs ks ls (h .3) (λ k w. a k (ap (λ t. eqb x (number k) || t) w ∙ or-true (eqb x (number k)))) in
     first-withdrawn x xs ks
     ∙ ap (λ t. cond t (withdraws xs ks) (x ∷ withdraws xs ks)) first-too
@@ -59,12 +62,19 @@ withdrawn-alike (x ∷ xs) ks ls h a =
 abbrev joining : Bool → List ℕ
 joining e = cond e (line.emergency ∷ line.sdoReply ∷ []) (line.sdoReply ∷ [])
 
-reply-joins : (e : Bool) (ws : List ℕ) → has line.sdoReply ws ≡ false → joins ws (joining e) ≡ ws ++ joining (e && not (has line.emergency ws))
+reply-joins : (e : Bool) (ws : List ℕ) → has line.sdoReply ws ≡ false
+    → joins ws (joining e) ≡ ws ++ joining (e && not (has line.emergency ws))
 reply-joins false ws n = rw (join-is ws line.sdoReply, n)
 reply-joins true ws n =
     test (has line.emergency ws)
     (λ w. rw (join-is ws line.emergency, w, join-is ws line.sdoReply, n))
-    (λ w. rw (join-is ws line.emergency, w, join-is (ws ++ line.emergency ∷ []) line.sdoReply, has-append line.sdoReply ws (line.emergency ∷ []), n)
+    (λ w. rw (
+      join-is ws line.emergency,
+      w,
+      join-is (ws ++ line.emergency ∷ []) line.sdoReply,
+      has-append line.sdoReply ws (line.emergency ∷ []),
+      n,
+    )
     (append-assoc ws (line.emergency ∷ []) (line.sdoReply ∷ [])))
 
 last-in : {all : List ℕ} (ws : List ℕ) (e : Bool) → all ≡ ws ++ joining e → (ahead : List ℕ) × (all ≡ ahead ++ line.sdoReply ∷ [])
@@ -93,11 +103,13 @@ module _ (h : Head) (valid : Valid h) (l : isLive (h .core) ≡ true) (free : wa
   ws = waiting (h .line)
 
   served-line : (s : Served) {left : List ℕ} {b : Bool} → withdraws ws (goes c (serving c s)) ≡ left
-      → (may (serving c s) emergency && not (has line.emergency left)) ≡ b → waiting (act false h (serve s) .line) ≡ left ++ joining b
+      → (isAlerting (serving c s) && not (has line.emergency left)) ≡ b → waiting (act false h (serve s) .line) ≡ left ++ joining b
   served-line s {left} {b} out e =
-      let due = may (serving c s) emergency in
+      let due = isAlerting (serving c s) in
       let into : comes requestMoments (serving c s) ≡ joining due = rw l in
-      let gone : has line.sdoReply left ≡ false = rw (← out, has-withdraws line.sdoReply ws (goes c (serving c s)), free) (and-false (not (has line.sdoReply (goes c (serving c s))))) in
+      let gone : has line.sdoReply left ≡ false =
+      rw (← out, has-withdraws line.sdoReply ws (goes c (serving c s)), free) (and-false (not (has line.sdoReply (goes c (serving c s)))))
+      in
       laws places .all (holds-act false h (serve s) valid)
       ∙ ap (joins (withdraws ws (goes c (serving c s)))) into
       ∙ ap (λ r. joins r (joining due)) out
@@ -107,10 +119,11 @@ module _ (h : Head) (valid : Valid h) (l : isLive (h .core) ≡ true) (free : wa
   pub at-the-end : (s : Served) → (ahead : List ℕ) × (waiting (act false h (serve s) .line) ≡ ahead ++ line.sdoReply ∷ [])
   at-the-end s =
       let left = withdraws ws (goes c (serving c s)) in
-      last-in left (may (serving c s) emergency && not (has line.emergency left)) (served-line s refl refl)
+      last-in left (isAlerting (serving c s) && not (has line.emergency left)) (served-line s refl refl)
 
   -- An aborted request and a read: no condition ends or begins.
-  pub only-reply : (bytes : List ℕ) → waiting (act false h (serve (record { bytes = bytes; effect = Reply })) .line) ≡ ws ++ line.sdoReply ∷ []
+  pub only-reply : (bytes : List ℕ)
+      → waiting (act false h (serve (record { bytes = bytes; effect = Reply })) .line) ≡ ws ++ line.sdoReply ∷ []
   only-reply bytes =
       let s : Served = record { bytes = bytes; effect = Reply } in
       let none-goes : goes c (serving c s) ≡ [] = simp and-not-self in
@@ -118,22 +131,27 @@ module _ (h : Head) (valid : Valid h) (l : isLive (h .core) ≡ true) (free : wa
       served-line s (ap (withdraws ws) none-goes) none-comes
 
   -- an accepted write
-  pub write-line : (f : List ℕ) (k v : ℕ) → waiting (act false h (serve (confirmed f k v)) .line) ≡ withdraws ws (those (takes k v)) ++ those (brings h k v)
+  pub write-line : (f : List ℕ) (k v : ℕ)
+      → waiting (act false h (serve (confirmed f k v)) .line) ≡ withdraws ws (those (takes k v)) ++ those (brings h k v)
   unfolding written
   write-line f k v =
       let now = serving c (confirmed f k v) in
       let alike : (x : Kind) → has (number x) ws ≡ true → has (number x) (goes c now) ≡ has (number x) (those (takes k v)) =
-      λ x w. has-those (λ y. may c y && not (may now y)) x
-      ∙ ap (λ t. t && not (may now x)) (valid .only x w)
+      λ x w. has-those (λ y. mayStay c y && not (mayStay now y)) x
+      ∙ ap (λ t. t && not (mayStay now x)) (valid .only x w)
       ∙ ends c f k v x (valid .only x w)
       ∙ sym (has-those (takes k v) x) in
-      let still = has-withdraws line.emergency ws (those (takes k v)) ∙ ap (λ t. not t && waits h emergency) (has-those (takes k v) emergency) in
-      let comes = begins (eqb k 0x1014_00) (c .nmt) v (communication c .emergency) (c .timers .inhibit) (good c) (c .announced) (waits h emergency) (emergency-exactly h valid) in
+      let still =
+      has-withdraws line.emergency ws (those (takes k v)) ∙ ap (λ t. not t && waits h emergency) (has-those (takes k v) emergency) in
+      let comes =
+      begins (eqb k emergencyKey) (c .nmt) v (communication c .emergency) (c .timers .inhibit) (good c) (c .announced) (waits h emergency)
+      (emergency-exactly h valid) in
       served-line (confirmed f k v)
       (withdrawn-alike ws (goes c now) (those (takes k v)) (valid .line .kinds) alike)
-      (ap (λ t. may now emergency && not t) still ∙ comes)
+      (ap (λ t. isAlerting now && not t) still ∙ comes)
 
-  pub write-waits : (f : List ℕ) (k v : ℕ) (x : Kind) → waits (act false h (serve (confirmed f k v))) x ≡ ((not (takes k v x) && waits h x) || brings h k v x)
+  pub write-waits : (f : List ℕ) (k v : ℕ) (x : Kind)
+      → waits (act false h (serve (confirmed f k v))) x ≡ ((not (takes k v x) && waits h x) || brings h k v x)
   write-waits f k v x =
       let out = those (takes k v) in
       let into = those (brings h k v) in

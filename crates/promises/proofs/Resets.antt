@@ -12,22 +12,24 @@ use Rattle.entries.specs.declared.table.Found.{Found}
 use Rattle.entries.specs.declared.table.Found.the-variants.{At, NoSubIndex, NoIndex}
 use Rattle.entries.specs.Table.{entries, rowAt, index, lookup}
 use Rattle.entries.proofs.Laws.{laws as entries-laws}
+use Rattle.entries.specs.Keys.{saveKey, loadKey}
 use Rattle.dictionary.specs.Accepted.{on}
 use Rattle.dictionary.specs.Reads.{noEntry, shown, shownAt, readOf, reads}
 use Rattle.dictionary.proofs.Columns.{at-place, row-of}
+use Rattle.dictionary.specs.Effects.{savedBy}
 use Rattle.waiting.specs.Line as line
 use Rattle.waiting.specs.Line.{places}
 use Rattle.waiting.specs.Calls.{withdraws, joins}
 use Rattle.waiting.proofs.Laws.{laws}
 use Rattle.parts.specs.declared.Head.{Head}
-use Rattle.promises.specs.States.{operational, isIn, isInitialising, node, communication, good, Reset, ofNode, ofCommunication, restored, toReset}
-use Rattle.promises.specs.WaitingLine.{emergency, may}
+use Rattle.promises.specs.States.{operational, isIn, isInitialising, node, communication, good}
+use Rattle.promises.specs.States.{Reset, ofNode, ofCommunication, restored, toReset}
+use Rattle.promises.specs.WaitingLine.{isAlerting}
 use Rattle.promises.specs.Acts.{boot, resetTo, booted, acted, emergencyOnly, goes, comes, settledTo, act}
 use Rattle.promises.specs.Calls.{receive, received, slotted}
 use Rattle.promises.specs.Valid.{Valid}
 use Rattle.promises.specs.Meant.{Commands}
 use Rattle.promises.specs.Histories.{after}
-use Rattle.promises.specs.Effects.{savedBy}
 use Rattle.promises.specs.Resets.{settingsFor, HasReset, HasBooted, Restores, Resets}
 use Rattle.promises.proofs.Valid.{valid-step}
 use Rattle.promises.proofs.Waits.{holds-act}
@@ -62,7 +64,8 @@ module _ (d : Device) where
   found-reset i j NoSubIndex e = refl
   found-reset i j NoIndex e = refl
 
-reads-reset : (r : Reset) (d : Device) (i j : ℕ) → reads (resetTo d (restored r (d .settings) (d .saved))) false i j ≡ reads (resetTo d (settingsFor r d i)) false i j
+reads-reset : (r : Reset) (d : Device) (i j : ℕ)
+    → reads (resetTo d (restored r (d .settings) (d .saved))) false i j ≡ reads (resetTo d (settingsFor r d i)) false i j
 reads-reset ofNode d i j = refl
 reads-reset ofCommunication d i j = found-reset d i j (lookup i j) refl
 
@@ -101,7 +104,7 @@ has-booted h v i =
     laws places .all (holds-act true h boot v)
     ∙ ap (λ ws. joins (withdraws (drop 1 ws) out) into) (none-waits h v i)
     ∙ ap (λ ws. joins ws into) (none-withdrawn out)
-    ∙ joined (may (booted c) emergency) line.emergency
+    ∙ joined (isAlerting (booted c)) line.emergency
     ∙ ap (λ t. cond (on (communication c .emergency) && true && not (Bool·beq (good c) t)) (line.emergency ∷ []) []) told
     ∙ ap (λ t. cond t (line.emergency ∷ []) []) (untold (on (communication c .emergency)) (good c)) in
     let after : HasBooted h (act true h boot) =
@@ -130,7 +133,7 @@ save-and-reset =
       settings-stay = λ h x. settings-after h (valid-reachable h x);
       reads-on = reads-on;
       saved-stays = λ h x. saved-after h (valid-reachable h x);
-      saves = restores 0x1010_01 _ (λ h. refl);
-      loads = restores 0x1011_01 _ (λ h. refl);
-      runs-on = λ h x f v w i j. served-rightly h x f (w .requests) .accepted 0x1011_01 v (w .accepted) .others i j refl;
+      saves = restores saveKey _ (λ h. refl);
+      loads = restores loadKey _ (λ h. refl);
+      runs-on = λ h x f v w i j. served-rightly h x f (w .requests) .accepted loadKey v (w .accepted) .others i j refl;
     }

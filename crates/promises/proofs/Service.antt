@@ -15,8 +15,8 @@ use Rattle.waiting.specs.Calls.{joins}
 use Rattle.parts.specs.declared.Core.{Core}
 use Rattle.parts.specs.declared.Head.{Head}
 use Rattle.promises.specs.States.{operational, isIn, isInitialising, isLive, node}
-use Rattle.promises.specs.WaitingLine.{sdoReply, flag}
-use Rattle.promises.specs.Acts.{Act, nothing, enter, reset, boot, idle, send, take, lose, time, sync, serve, acted, moments, act}
+use Rattle.promises.specs.WaitingLine.{sdoReply}
+use Rattle.promises.specs.Acts.{Act, nothing, enter, reset, boot, idle, send, take, lose, time, sync, serve, acted, momentsOf, act}
 use Rattle.promises.specs.Calls.{receive, meant, step, received}
 use Rattle.promises.specs.Valid.{waits, Valid}
 use Rattle.promises.specs.Meant.{Heard, Requests, reply-waits, client-abort}
@@ -31,7 +31,7 @@ use Rattle.promises.proofs.Histories.{valid-reachable}
 
 -- an act by which no reply joins
 abbrev pub JoinsNot : Core → Act → Type 0
-JoinsNot c a = flag (moments c a) sdoReply ≡ false
+JoinsNot c a = momentsOf c a sdoReply ≡ false
 
 module _ (h : Head) (f : Received) where
   pub heard-as : isHeard h f ≡ true → Heard h f
@@ -41,7 +41,17 @@ module _ (h : Head) (f : Received) where
       record { unrefused = eqb-true _ _ (u .0); heard = not-true _ (u .1) }
 
   pub is-request : (isRequest h f ≡ true) ↔ Requests h f
-  is-request = (as-record, λ r. rw (eq-eqb _ _ (r .hears .unrefused), r .hears .heard, eq-eqb _ _ (r .identifier), eq-eqb _ _ (r .length), r .live, r .free))
+  is-request = (
+    as-record,
+    λ r. rw (
+      eq-eqb _ _ (r .hears .unrefused),
+      r .hears .heard,
+      eq-eqb _ _ (r .identifier),
+      eq-eqb _ _ (r .length),
+      r .live,
+      r .free,
+    ),
+  )
     where
       as-record : isRequest h f ≡ true → Requests h f
       as-record e =
@@ -51,7 +61,13 @@ module _ (h : Head) (f : Received) where
           let b = both (isHeard h f && i && l) (isLive (h .core)) (a .0) in
           let c = both (isHeard h f && i) l (b .0) in
           let d = both (isHeard h f) i (c .0) in
-          record { hears = heard-as (d .0); identifier = eqb-true _ _ (d .1); length = eqb-true _ _ (c .1); live = b .1; free = not-true _ (a .1) }
+          record {
+            hears = heard-as (d .0);
+            identifier = eqb-true _ _ (d .1);
+            length = eqb-true _ _ (c .1);
+            live = b .1;
+            free = not-true _ (a .1);
+          }
 
   module _ (v : Valid h) where
     serves-it : Requests h f → aborting (f .bytes) ≡ false → meant h (receive f) ≡ serve (replyDue h f)
@@ -90,7 +106,7 @@ module _ (h : Head) (f : Received) where
     unanswered e =
         test (isRequest h f)
         (λ r. test (aborting (f .bytes))
-        (λ a. ap (λ x. flag (moments (h .core) x) sdoReply) (unmeant h f v (client-abort (is-request .0 r .identifier) a)))
+        (λ a. ap (λ x. momentsOf (h .core) x sdoReply) (unmeant h f v (client-abort (is-request .0 r .identifier) a)))
         (λ a. true-false (rw (r, a) at e)))
         (λ n. unjoined (meant h (receive f)) (cause h f v) (λ r. true-false (sym (is-request .1 r) ∙ n)))
 

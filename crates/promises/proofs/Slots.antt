@@ -1,12 +1,10 @@
 -- What a slot answers, and that nothing waits in Initialising.
-use Prim.Native.Nat.{ℕ, zero, suc, _<_, _≤_}
+use Prim.Native.Nat.{ℕ}
 use native.Mathlib.Omega.{arith}
-use lib.Dec.{eqb}
-use mathlib.Core.Path.{_≡_, refl, sym, ap, _∙_}
-use mathlib.Core.Logic.{_↔_}
+use mathlib.Core.Path.{_≡_, sym, ap, _∙_}
+use mathlib.Core.Logic.{_↔_, ⊎-elim}
 use mathlib.Core.Bool.{true, false}
-use mathlib.Core.List.{List, [], _∷_}
-use borrow.Author.Tests.{eqb-true, eq-eqb}
+use mathlib.Core.List.{List, []}
 use Rattle.cases.proofs.Cases.{test, true-false}
 use Rattle.waiting.specs.Line.{places, has, first, Kinds}
 use Rattle.waiting.specs.Places.{waiting}
@@ -14,30 +12,21 @@ use Rattle.waiting.proofs.Laws.{laws}
 use Rattle.parts.specs.declared.Core.{Core}
 use Rattle.parts.specs.declared.Head.{Head}
 use Rattle.promises.specs.States.{isInitialising, one, two}
-use Rattle.promises.specs.WaitingLine.{Kind, emergency, sdoReply, heartbeat, tpdo, number, kindOf, may}
+use Rattle.promises.specs.WaitingLine.{Kind, emergency, sdoReply, heartbeat, tpdo, number, mayStay}
 use Rattle.promises.specs.Acts.{Act, boot, send, frameBy}
 use Rattle.promises.specs.Calls.{slot, meant, sentBy, isFrame, frameIn, slotted}
 use Rattle.promises.specs.Valid.{Valid}
+use Rattle.promises.proofs.KindNumbers.{positive, first-of}
 use Rattle.promises.proofs.States.{not-operational, not-live}
 
-pub no-may : (c : Core) (k : Kind) → isInitialising c ≡ true → may c k ≡ false
-no-may c emergency i = rw (not-live c i)
-no-may c sdoReply i = not-live c i
-no-may c heartbeat i = rw i
-no-may c (tpdo w) i = rw (not-operational c i)
-
-pub number-is : (x : ℕ) → 0 < x → x ≤ places → number (kindOf x) ≡ x
-number-is zero p q = absurd (omega arith)
-number-is (suc zero) p q = refl
-number-is (suc (suc zero)) p q = refl
-number-is (suc (suc (suc zero))) p q = refl
-number-is (suc (suc (suc (suc zero)))) p q = refl
-number-is (suc (suc (suc (suc (suc zero))))) p q = refl
-number-is (suc (suc (suc (suc (suc (suc x)))))) p q = absurd (omega arith)
+pub no-stay : (c : Core) (k : Kind) → isInitialising c ≡ true → mayStay c k ≡ false
+no-stay c emergency i = rw (not-live c i)
+no-stay c sdoReply i = not-live c i
+no-stay c heartbeat i = rw i
+no-stay c (tpdo w) i = rw (not-operational c i)
 
 pub none-of : (ws : List ℕ) → Kinds places ws → ((k : Kind) → has (number k) ws ≡ true → ⊥) → ws ≡ []
-none-of [] h n = refl
-none-of (x ∷ xs) h n = absurd (n (kindOf x) (rw (eq-eqb x (number (kindOf x)) (sym (number-is x (h .0) (h .1))))))
+none-of ws h n = ⊎-elim (λ e. e) (λ u. absurd (n (u .0) (u .2))) (first-of ws h)
 
 pub sent-by : (c : Core) (k : Kind) → isInitialising c ≡ false → sentBy c (number k) ≡ send k
 sent-by c emergency i = rw i
@@ -48,7 +37,8 @@ sent-by c (tpdo two) i = rw i
 
 module _ (h : Head) where
   -- by what the slot means
-  pub answers : {a : Act} → meant h slot ≡ a → (slotted h .waited ≡ isFrame (frameBy (h .core) a)) × (slotted h .frame ≡ frameIn (frameBy (h .core) a))
+  pub answers : {a : Act} → meant h slot ≡ a
+      → (slotted h .waited ≡ isFrame (frameBy (h .core) a)) × (slotted h .frame ≡ frameIn (frameBy (h .core) a))
   answers m = (ap (λ x. isFrame (frameBy (h .core) x)) m, ap (λ x. frameIn (frameBy (h .core) x)) m)
 
   pub boots : isInitialising (h .core) ≡ true → meant h slot ≡ boot
@@ -56,7 +46,12 @@ module _ (h : Head) where
 
   module _ (v : Valid h) where
     pub none-waits : isInitialising (h .core) ≡ true → waiting (h .line) ≡ []
-    none-waits i = none-of (waiting (h .line)) (v .line .kinds) (λ k w. true-false (sym (v .only k w) ∙ no-may (h .core) k i))
+    none-waits i = none-of (waiting (h .line)) (v .line .kinds) (λ k w. true-false (sym (v .only k w) ∙ no-stay (h .core) k i))
+
+    -- in Initialising no kind is first
+    pub awake : (k : Kind) → first (waiting (h .line)) ≡ number k → isInitialising (h .core) ≡ false
+    awake k e =
+        test (isInitialising (h .core)) (λ i. absurd (omega (arith, positive k, ap first (sym (none-waits i)) ∙ e))) (λ i. i)
 
     pub sends-first : isInitialising (h .core) ≡ false → (k : Kind) → first (waiting (h .line)) ≡ number k → meant h slot ≡ send k
     sends-first i k e = rw (laws places .first-of (v .line), e) (sent-by (h .core) k i)
@@ -68,6 +63,8 @@ module _ (h : Head) where
         none-left e =
             test (isInitialising (h .core))
             (λ i. true-false (rw i at e))
-            (λ i. test (eqb (first (h .line)) 0)
-            (λ z. (i, laws places .idle (v .line) (eqb-true _ _ z)))
-            (λ z. true-false (rw (i, z) at e)))
+            (λ i. (
+              i,
+              ⊎-elim (λ n. n) (λ u. true-false (sym (answers (sends-first i (u .0) (u .1)) .0) ∙ e))
+                  (first-of (waiting (h .line)) (v .line .kinds)),
+            ))

@@ -7,7 +7,8 @@ use borrow.Author.Tests.{eqb-true, not-true, eq-eqb}
 use Rattle.cases.proofs.Cases.{either, by, test, both, neither, true-false}
 use Rattle.can.specs.declared.Received.{Received}
 use Rattle.parts.specs.declared.Head.{Head}
-use Rattle.promises.specs.States.{ofNode, ofCommunication, operational, stopped, preOperational, isInitialising, node, Reset, Command, noCommand, toEnter, toReset, command, byteOf, commandOf}
+use Rattle.promises.specs.States.{ofNode, ofCommunication, operational, stopped, preOperational, isInitialising, node}
+use Rattle.promises.specs.States.{Reset, Command, noCommand, toEnter, toReset, command, byteOf, commandOf}
 use Rattle.promises.specs.Calls.{receive}
 use Rattle.promises.specs.Meant.{Heard, Commands}
 use Rattle.promises.specs.Service.{takesReply}
@@ -31,7 +32,8 @@ spoken b =
 
 module _ (n : ℕ) (h : Head) (f : Received) (q : node (h .core) ≡ n) where
   -- what a command to this head says, its first byte does
-  pub commands-so : (t : ℕ → Bool) (k : Command) → Commands h f k → (k ≡ noCommand → ⊥) → (Spoken (byteOf f 0) k → t (byteOf f 0) ≡ true) → isCommand n t (receive f) ≡ true
+  pub commands-so : (t : ℕ → Bool) (k : Command) → Commands h f k → (k ≡ noCommand → ⊥) → (Spoken (byteOf f 0) k → t (byteOf f 0) ≡ true)
+      → isCommand n t (receive f) ≡ true
   commands-so t k m some so =
       let says : commandOf n f ≡ k = rw q at (m .says) in
       test (eqb (f .length) 2 && (eqb (byteOf f 1) 0 || eqb (byteOf f 1) n))
@@ -49,7 +51,8 @@ module _ (n : ℕ) (h : Head) (f : Received) (q : node (h .core) ≡ n) where
   halts-so (toEnter operational) m t = true-false (sym t)
   halts-so (toEnter stopped) m t = commands-so stopsOrResets (toEnter stopped) m (λ e. true-false (ap takesReply e)) (λ s. rw s)
   halts-so (toEnter preOperational) m t = true-false (sym t)
-  halts-so (toReset r) m t = commands-so stopsOrResets (toReset r) m (λ e. true-false (ap takesReply e)) (λ s. rw s (or-true (eqb (byteOf f 0) 0x02)))
+  halts-so (toReset r) m t =
+      commands-so stopsOrResets (toReset r) m (λ e. true-false (ap takesReply e)) (λ s. rw s (or-true (eqb (byteOf f 0) 0x02)))
 
   pub resets-heard : isInitialising (h .core) ≡ false → isCommand n resets (receive f) ≡ true → (r : Reset) × Commands h f (toReset r)
   resets-heard i e =

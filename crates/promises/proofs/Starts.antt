@@ -7,8 +7,7 @@ use mathlib.Core.Path.{_≡_, refl, sym, ap, subst, _∙_}
 use mathlib.Core.Bool.{Bool, true, false, not, _&&_, cond}
 use mathlib.Core.List.{List, [], _∷_, map}
 use mathlib.Core.Option.{some}
-use mathlib.Core.Logic.{inr, ⊎-elim}
-use borrow.Author.Tests.{eqb-true, eqb-false, le-ltb}
+use borrow.Author.Tests.{eqb-true, le-ltb}
 use Rattle.cases.specs.Tests.{within}
 use Rattle.entries.specs.declared.Device.{Device}
 use Rattle.entries.specs.declared.Identity.{Identity}
@@ -25,7 +24,7 @@ use Rattle.dictionary.proofs.Columns.{at-place}
 use Rattle.dictionary.proofs.Laws.{shows}
 use Rattle.sdo.specs.Request.{top, indexOf, subOf}
 use Rattle.sdo.specs.Request as request
-use Rattle.sdo.specs.Service.{Due, none, value, confirmation, abort, due}
+use Rattle.sdo.specs.Service.{due}
 use Rattle.sdo.specs.Worked.{bytes}
 use Rattle.sdo.proofs.Laws.{laws as sdo-laws}
 use Rattle.sdo.specs.declared.reply.Effect.{Effect}
@@ -35,19 +34,16 @@ use Rattle.waiting.specs.Line.{emergency, sdoReply, has}
 use Rattle.parts.specs.declared.Nmt.{Nmt}
 use Rattle.parts.specs.declared.Head.{Head}
 use Rattle.promises.specs.States.{operational, isIn, live, communication, good, restored, started, startedCore}
-use Rattle.promises.specs.Acts.{settledTo, act}
-use Rattle.promises.specs.Calls.{Call, receive, slot, step, answered, noIdentity}
+use Rattle.promises.specs.Calls.{Call, slot, step, answered, noIdentity}
 use Rattle.promises.specs.Valid.{Valid}
-use Rattle.promises.specs.Meant.{Requests, dueTo, Writes}
+use Rattle.promises.specs.Meant.{Requests, dueTo}
 use Rattle.promises.specs.Histories.{after, PowerUp, powered}
 use Rattle.promises.specs.Service.{replyDue}
-use Rattle.promises.specs.Resets.{HasBooted, Saves}
+use Rattle.promises.specs.Resets.{HasBooted}
 use Rattle.promises.specs.Gap.{nodeOf}
-use Rattle.promises.specs.Node1.{node1, toNode1}
-use Rattle.promises.specs.Worked.{missing}
 use Rattle.promises.specs.Readings.{readsIn, dueShown}
 use Rattle.promises.specs.Codes.{All}
-use Rattle.promises.specs.Starts.{identityOf, Line, firstReads, firstLines, reading, Reads, Starts, StartsMet}
+use Rattle.promises.specs.Starts.{identityOf, Line, firstReads, firstLines, reading, Reads, Starts}
 use Rattle.promises.proofs.Valid.{valid-step}
 use Rattle.promises.proofs.Meant.{core-step, resets}
 use Rattle.promises.proofs.Altered.{Altered, heard, timed, sent, refused, took, lost, restarted, served, altered}
@@ -59,8 +55,10 @@ use Rattle.promises.proofs.NetworkStates.{network-states}
 use Rattle.promises.proofs.Resets.{save-and-reset}
 
 -- equal columns are equal at each place
-same-at : {A B C : Type 0} (f : A → C) (g : B → C) (l : List A) (m : List B) (a : A) (b : B) (p : ℕ) → f a ≡ g b → map f l ≡ map g m → f (getD l p a) ≡ g (getD m p b)
-same-at f g l m a b p e c = sym (List·getD-map f l p a) ∙ ap (λ x. getD (map f l) p x) e ∙ ap (λ k. getD k p (g b)) c ∙ List·getD-map g m p b
+same-at : {A B C : Type 0} (f : A → C) (g : B → C) (l : List A) (m : List B) (a : A) (b : B) (p : ℕ) → f a ≡ g b → map f l ≡ map g m
+    → f (getD l p a) ≡ g (getD m p b)
+same-at f g l m a b p e c =
+    sym (List·getD-map f l p a) ∙ ap (λ x. getD (map f l) p x) e ∙ ap (λ k. getD k p (g b)) c ∙ List·getD-map g m p b
 
 -- what holds at each place holds of each
 all-at : {A : Type 0} (P : A → Type 0) (l : List A) (a : A) → ((k : ℕ) → k < length l → P (getD l k a)) → All P l
@@ -68,7 +66,8 @@ all-at P [] a f = tt
 all-at P (x ∷ xs) a f = (f 0 (omega arith), all-at P xs a (λ k e. f (suc k) (omega (arith, e))))
 
 -- what is due to a read of the entry at place p
-read-due : (d : Device) (o : Bool) (f : List ℕ) (p : ℕ) (s : Shown) → request.reading f ≡ true → lookup (indexOf f) (subOf f) ≡ At p → shownAt d o p ≡ s
+read-due : (d : Device) (o : Bool) (f : List ℕ) (p : ℕ) (s : Shown) → request.reading f ≡ true → lookup (indexOf f) (subOf f) ≡ At p
+    → shownAt d o p ≡ s
     → due d o f ≡ dueShown (width (rowAt p)) s
 unfolding due
 read-due d o f p Blank r q e = rw (q, eqb-true (top f) 2 r, e)
@@ -96,7 +95,8 @@ module _ (n : ℕ) (i : Identity) where
   row-at : (k : ℕ) → (line k .0 ≡ index (rowAt k)) × (line k .1 ≡ sub (rowAt k)) × (line k .2 ≡ width (rowAt k))
   row-at k =
       let e : _≡_ {A = ℕ × ℕ × ℕ} (line k .0, line k .1, line k .2) (index (rowAt k), sub (rowAt k), width (rowAt k)) =
-      same-at {C = ℕ × ℕ × ℕ} (λ l. (l .0, l .1, l .2)) (λ r. (index r, sub r, width r)) (firstReads n i) table noLine noRow k refl all-of-them in
+      same-at {C = ℕ × ℕ × ℕ} (λ l. (l .0, l .1, l .2)) (λ r. (index r, sub r, width r)) (firstReads n i) table noLine noRow k refl
+      all-of-them in
       (ap (λ t. t .0) e, ap (λ t. t .1) e, ap (λ t. t .2) e)
 
   found : (k : ℕ) → k < length table → lookup (line k .0) (line k .1) ≡ At k
@@ -139,7 +139,9 @@ module _ (n : ℕ) (i : Identity) where
 powered-is : (p : PowerUp) → powered p ≡ started (nodeOf p) (identityOf p)
 powered-is p = chosen (within 1 127 (p .number))
   where
-    chosen : (t : Bool) → cond t (answered 0 (started (p .number) (p .identity))) (answered 4 (started 1 noIdentity)) .head ≡ started (cond t (p .number) 1) (cond t (p .identity) noIdentity)
+    chosen : (t : Bool)
+        → cond t (answered 0 (started (p .number) (p .identity))) (answered 4 (started 1 noIdentity)) .head
+        ≡ started (cond t (p .number) 1) (cond t (p .identity) noIdentity)
     chosen true = refl
     chosen false = refl
 
@@ -158,7 +160,8 @@ lines p =
 asked : (p : PowerUp) (i j : ℕ) → Requests (step (powered p) slot) (reading (nodeOf p) i j)
 asked p i j =
     let h : Head = powered p in
-    let b : HasBooted h (step h slot) = save-and-reset .boots h (demand1 .starts p) (ap (λ (s : Nmt). eqb (s .code) 0x00) (network-states .starts p)) in
+    let b : HasBooted h (step h slot) =
+    save-and-reset .boots h (demand1 .starts p) (ap (λ (s : Nmt). eqb (s .code) 0x00) (network-states .starts p)) in
     let low : nodeOf p ≤ 127 = subst (λ n. n ≤ 127) (node-powered p) (valid-powered p .device .node-high) in
     record {
       hears =
@@ -205,9 +208,11 @@ same-identity p cs = identity-after cs (powered p) (valid-powered p) ∙ ap (λ 
 
 -- 1018-1..4
 identity-shown : (d : Device) (o : Bool) → let i = d .identity in
-    Shows d o 0x1018 1 (Number (i .vendor)) × Shows d o 0x1018 2 (Number (i .product)) × Shows d o 0x1018 3 (Number (i .revision)) × Shows d o 0x1018 4 (Number (i .serial))
+    Shows d o 0x1018 1 (Number (i .vendor)) × Shows d o 0x1018 2 (Number (i .product)) × Shows d o 0x1018 3 (Number (i .revision))
+    × Shows d o 0x1018 4 (Number (i .serial))
 unfolding entries table lookup shownAt
-identity-shown d o = (shows d o 0x1018 1 refl refl, shows d o 0x1018 2 refl refl, shows d o 0x1018 3 refl refl, shows d o 0x1018 4 refl refl)
+identity-shown d o =
+    (shows d o 0x1018 1 refl refl, shows d o 0x1018 2 refl refl, shows d o 0x1018 3 refl refl, shows d o 0x1018 4 refl refl)
 
 pub starts : Starts
 starts =
@@ -218,12 +223,15 @@ starts =
       saved = saved-is;
       restores = λ p cs n f r m.
           let h : Head = after (powered p) cs in
-          resets h f r m .settings ∙ ap (restored r (h .core .device .settings)) (saved-after (powered p) (valid-powered p) cs n ∙ saved-is p);
+          resets h f r m .settings
+          ∙ ap (restored r (h .core .device .settings)) (saved-after (powered p) (valid-powered p) cs n ∙ saved-is p);
       same-identity = same-identity;
       refused = λ p bad cs.
           let r = demand1 .gives-4 (p .number) (p .identity) .1 bad in
-          let e : powered p ≡ started 1 noIdentity = demand1 .node-refused (p .number) (p .identity) (λ z. omega (arith, sym r ∙ z)) in
-          (node-after (powered p) (valid-powered p) cs ∙ ap (λ (h : Head). h .core .device .node) e, identity-after cs (powered p) (valid-powered p) ∙ ap (λ (h : Head). h .core .device .identity) e);
+          let e : powered p ≡ started 1 noIdentity = demand1 .node-refused (p .number) (p .identity) (λ z. omega (arith, sym r ∙ z)) in (
+            node-after (powered p) (valid-powered p) cs ∙ ap (λ (h : Head). h .core .device .node) e,
+            identity-after cs (powered p) (valid-powered p) ∙ ap (λ (h : Head). h .core .device .identity) e,
+          );
       identity-read = λ p cs.
           let h : Head = after (powered p) cs in
           let s = identity-shown (h .core .device) (isIn operational (h .core)) in
@@ -234,29 +242,3 @@ starts =
             s .3 ∙ ap (λ (i : Identity). some (Number (i .serial))) e,
           );
     }
-
--- the entry that is written
-abbrev keyIn : Due → ℕ
-keyIn none = 0
-keyIn (value w m) = 0
-keyIn (confirmation k v) = k
-keyIn (abort code) = 0
-
-pub starts-met : StartsMet
-unfolding entries table lookup shownAt written due act settledTo
-starts-met =
-    record {
-      none-saves = (λ x. x, (λ x. x, (unsaving, (λ x. x, tt))));
-      reads-written = refl;
-      commands = record { hears = record { unrefused = refl; heard = refl }; identifier = refl; says = refl };
-      reads-again = refl;
-      bad-node = inr (omega arith);
-    }
-  where
-    -- the write is of 1017h
-    unsaving : Saves (after node1 missing) (receive (toNode1 (bytes 0x2B 0x17 0x10 0x00 0xE8 0x03 0 0))) → ⊥
-    unsaving s =
-        ⊎-elim
-        (λ (w : Writes _ _ 0x1010_01 (s .0)). eqb-false 0x1017_00 0x1010_01 refl (ap keyIn (w .accepted)))
-        (λ (w : Writes _ _ 0x1011_01 (s .0)). eqb-false 0x1017_00 0x1011_01 refl (ap keyIn (w .accepted)))
-        (s .1)

@@ -16,13 +16,16 @@ use Rattle.waiting.specs.Line.{first}
 use Rattle.parts.specs.declared.Head.{Head}
 use Rattle.parts.specs.declared.Sensor.{Sensor}
 use Rattle.parts.specs.declared.Sensor.the-variants.{Missing, Raw}
-use Rattle.promises.specs.States.{operational, stopped, preOperational, isIn, isInitialising, node, Command, noCommand, toEnter, toReset, commandOf}
+use Rattle.position.specs.Profile.{highestRaw}
+use Rattle.promises.specs.States.{operational, stopped, preOperational, isIn, isInitialising, node}
+use Rattle.promises.specs.States.{Command, noCommand, toEnter, toReset, commandOf}
 use Rattle.promises.specs.Acts.{Act, nothing, enter, reset, boot, idle, send, take, lose, time, sync, serve}
 use Rattle.promises.specs.Calls.{Call, receive, tick, sample, slot, isSlot, served, meant}
 use Rattle.promises.specs.Valid.{Valid}
 use Rattle.promises.specs.Meant.{Commands, Synchronises, Writes, dueTo}
 use Rattle.promises.specs.Service.{isHeard, isRequest, confirms}
 use Rattle.promises.specs.Moments.{isSync, saysOperational, isEntry, writes, synchronises, entersOperational, isTick}
+use Rattle.promises.proofs.KindNumbers.{sent-as}
 use Rattle.promises.proofs.Service.{heard-as, is-request}
 use Rattle.promises.proofs.States.{not-operational}
 use Rattle.promises.proofs.Meant.{commands}
@@ -69,7 +72,16 @@ operational-said (toReset r) e = true-false (sym e)
 
 module _ (h : Head) (f : Received) where
   pub is-sync : (isSync h f ≡ true) ↔ Synchronises h f
-  is-sync = (as-record, λ s. rw (eq-eqb _ _ (s .hears .unrefused), s .hears .heard, eq-eqb _ _ (s .identifier), le-leb (f .length) 1 (s .length), s .operational))
+  is-sync = (
+    as-record,
+    λ s. rw (
+      eq-eqb _ _ (s .hears .unrefused),
+      s .hears .heard,
+      eq-eqb _ _ (s .identifier),
+      le-leb (f .length) 1 (s .length),
+      s .operational,
+    ),
+  )
     where
       as-record : isSync h f ≡ true → Synchronises h f
       as-record e =
@@ -78,7 +90,12 @@ module _ (h : Head) (f : Received) where
           let a = both (isHeard h f && i && l) (isIn operational (h .core)) e in
           let b = both (isHeard h f && i) l (a .0) in
           let c = both (isHeard h f) i (b .0) in
-          record { hears = heard-as h f (c .0); identifier = eqb-true _ _ (c .1); length = leb-true (f .length) 1 (b .1); operational = a .1 }
+          record {
+            hears = heard-as h f (c .0);
+            identifier = eqb-true _ _ (c .1);
+            length = leb-true (f .length) 1 (b .1);
+            operational = a .1;
+          }
 
   pub is-entry : (isEntry h f ≡ true) ↔ (Commands h f (toEnter operational) × (isIn operational (h .core) ≡ false))
   is-entry = (as-record, λ m. rw (eq-eqb _ _ (m .0 .hears .unrefused), m .0 .hears .heard, eq-eqb _ _ (m .0 .identifier), m .0 .says, m .1))
@@ -119,7 +136,8 @@ confirmed-by t (value w n) e = true-false (sym e)
 confirmed-by t (confirmation k v) e = (k, v, e, refl)
 confirmed-by t (abort code) e = true-false (sym e)
 
-pub is-written : (h : Head) (f : Received) (t : ℕ → ℕ → Bool) → (writes t h (receive f) ≡ true) ↔ ((k : ℕ) × (v : ℕ) × (t k v ≡ true) × Writes h f k v)
+pub is-written : (h : Head) (f : Received) (t : ℕ → ℕ → Bool)
+    → (writes t h (receive f) ≡ true) ↔ ((k : ℕ) × (v : ℕ) × (t k v ≡ true) × Writes h f k v)
 is-written h f t = (as-write, λ w. rw (is-request h f .1 (w .3 .requests), w .3 .accepted) (w .2))
   where
     as-write : writes t h (receive f) ≡ true → (k : ℕ) × (v : ℕ) × (t k v ≡ true) × Writes h f k v
@@ -137,7 +155,8 @@ pub record Tested (h : Head) (x : Call) (m : Marks) : Type 0 where
   pub beats : (isTick x && not (isInitialising (h .core))) ≡ m .times
   pub ticks : (isTick x && isIn operational (h .core)) ≡ (m .times && isIn operational (h .core))
 
--- What is known of a frame by its tests: none boots and none is a tick, one that is no request writes nothing, and so of an entry and a SYNC.
+-- What is known of a frame by its tests: none boots and none is a tick, one
+-- that is no request writes nothing, and so of an entry and a SYNC.
 record Otherwise (h : Head) (f : Received) (m : Marks) : Type 0 where
   pub unwritten : isRequest h f ≡ false → (t : ℕ → ℕ → Bool) → effectTo t (m .effect) ≡ false
   pub unbooted : m .boots ≡ false
@@ -177,11 +196,15 @@ module _ (h : Head) (v : Valid h) where
       let wrote : (ℕ → ℕ → Bool) → Bool → Bool = λ t b. b && confirms t (dueTo h f) in
       record {
         written = λ t. test (isRequest h f)
-            (λ e. ap (wrote t) e ∙ due-to t (f .bytes) (dueTo h f) ∙ ap (λ a. effectTo t (marks a .effect)) (sym (requests h f v (is-request h f .0 e))))
+            (λ e. ap (wrote t) e ∙ due-to t (f .bytes) (dueTo h f) ∙ ap (λ a. effectTo t (marks a .effect))
+            (sym (requests h f v (is-request h f .0 e))))
             (λ e. ap (wrote t) e ∙ sym (o .unwritten e t));
         boots = sym (o .unbooted);
-        enters = test (isEntry h f) (λ e. e ∙ ap (λ a. marks a .enters) (sym (entered h f (is-entry h f .0 e)))) (λ e. e ∙ sym (o .unentered e));
-        syncs = test (isSync h f) (λ e. e ∙ ap (λ a. marks a .syncs) (sym (synchronised h f (is-sync h f .0 e)))) (λ e. e ∙ sym (o .unsynced e));
+        enters =
+            test (isEntry h f) (λ e. e ∙ ap (λ a. marks a .enters) (sym (entered h f (is-entry h f .0 e)))) (λ e. e ∙ sym (o .unentered e));
+        syncs =
+            test (isSync h f) (λ e. e ∙ ap (λ a. marks a .syncs) (sym (synchronised h f (is-sync h f .0 e))))
+            (λ e. e ∙ sym (o .unsynced e));
         beats = sym (o .untimed);
         ticks = ap (λ b. b && isIn operational (h .core)) (sym (o .untimed));
       }
@@ -193,13 +216,20 @@ module _ (h : Head) (v : Valid h) where
   tested (receive f) = tested-frame f
   tested tick =
       by (λ a. Tested h tick (marks a)) (isInitialising (h .core))
-      (λ i. record { written = λ _. refl; boots = refl; enters = refl; syncs = refl; beats = ap not i; ticks = not-operational (h .core) i })
+      (λ i. record {
+        written = λ _. refl;
+        boots = refl;
+        enters = refl;
+        syncs = refl;
+        beats = ap not i;
+        ticks = not-operational (h .core) i;
+      })
       (λ i. record { written = λ _. refl; boots = refl; enters = refl; syncs = refl; beats = ap not i; ticks = refl })
   tested (sample Missing) = of-sample
-  tested (sample (Raw r)) = by (λ a. Tested h (sample (Raw r)) (marks a)) (ltb 1048575 r) (λ _. of-sample) (λ _. of-sample)
+  tested (sample (Raw r)) = by (λ a. Tested h (sample (Raw r)) (marks a)) (ltb highestRaw r) (λ _. of-sample) (λ _. of-sample)
   tested slot =
       by (λ a. Tested h slot (marks a)) (isInitialising (h .core)) at-slot
-      (λ i. by (λ a. Tested h slot (marks a)) (eqb (first (h .line)) 0) (λ _. at-slot i) (λ _. at-slot i))
+      (λ i. sent-as (λ a. Tested h slot (marks a)) (first (h .line)) (at-slot i) (λ _. at-slot i))
     where
       at-slot : {b : Bool} → isInitialising (h .core) ≡ b → Tested h slot (mark Nothing b false false false)
       at-slot i = record { written = λ _. refl; boots = i; enters = refl; syncs = refl; beats = refl; ticks = refl }

@@ -17,7 +17,9 @@ use Rattle.promises.specs.States.{operational, isIn, isInitialising, isL
 use Rattle.promises.specs.Acts.{Act, nothing}
 use Rattle.promises.specs.Calls.{receive, commanded, synchronised, requested, meant, received}
 use Rattle.promises.specs.Valid.{Valid}
-use Rattle.promises.specs.Meant.{NotMeant, remote, of-29-bits, not-booted, other-identifier, command-length, other-node, other-command, state-held, sync-length, sync-state, request-length, request-state, reply-waits, client-abort}
+use Rattle.promises.specs.Meant.{NotMeant, remote, of-29-bits, not-booted, other-identifier, command-length, other-node}
+use Rattle.promises.specs.Meant.{other-command, state-held, sync-length, sync-state, request-length, request-state, reply-waits}
+use Rattle.promises.specs.Meant.{client-abort}
 use Rattle.promises.proofs.Nothing.{step-nothing}
 use Rattle.promises.proofs.Waits.{reply-waiting}
 use Rattle.promises.proofs.Hearing.{heard-by}
@@ -59,7 +61,8 @@ module _ (h : Head) (f : Received) where
   unmeant v (request-state i s) = as-request i (rw (s, and-false (eqb (f .length) 8)))
   unmeant v (reply-waits i w) = as-request i (rw (reply-waiting h v, w, and-false (eqb (f .length) 8 && isLive c)))
   unmeant v (client-abort i a) =
-      as-request i (by None (eqb (f .length) 8 && isLive c && not (has line.sdoReply (h .line))) (λ _. rw (sdo-laws (c .device) (isIn operational c) (f .bytes) .replied, a)) (λ _. refl))
+      as-request i (by None (eqb (f .length) 8 && isLive c && not (has line.sdoReply (h .line)))
+      (λ _. rw (sdo-laws (c .device) (isIn operational c) (f .bytes) .replied, a)) (λ _. refl))
 
   pub not-meant : Valid h → NotMeant h f → received h f .head ≡ h
   not-meant v m = step-nothing h (receive f) refl (unmeant v m)

@@ -8,7 +8,7 @@ use Rattle.dictionary.specs.Accepted.{on}
 use Rattle.parts.specs.declared.Core.{Core}
 use Rattle.parts.specs.declared.Head.{Head}
 use Rattle.promises.specs.States.{isLive, node, communication, good}
-use Rattle.promises.specs.WaitingLine.{emergency, sdoReply, heartbeat, tpdo, may}
+use Rattle.promises.specs.WaitingLine.{emergency, sdoReply, heartbeat, tpdo, isAlerting}
 use Rattle.promises.specs.Acts.{Act, nothing, enter, reset, boot, idle, send, take, lose, time, sync, serve, acted}
 use Rattle.promises.specs.Calls.{Call, receive, tick, sample, slot, meant, step}
 use Rattle.promises.specs.Valid.{Valid}
@@ -25,7 +25,7 @@ pub record Pending (c : Core) : Type 0 where
   pub free : (c .announced ≡ false) ⊎ (c .timers .inhibit ≡ 0)
 
 -- then the emergency waits until it has announced that
-pub pending-may : (c : Core) → Pending c → on (communication c .emergency) ≡ true → c .announced ≡ true → may c emergency ≡ true
+pub pending-may : (c : Core) → Pending c → on (communication c .emergency) ≡ true → c .announced ≡ true → isAlerting c ≡ true
 pending-may c p o n = ⊎-elim (λ t. true-false (sym n ∙ t)) (λ (i : c .timers .inhibit ≡ 0). rw (p .alive, o, i, p .lost, n)) (p .free)
 
 -- once announced it stays announced
@@ -46,7 +46,8 @@ told-act c sync n g t = t
 told-act c (serve s) n g t = t
 
 -- only sending the emergency starts an inhibit time, and that announces
-stays-free : (c : Core) (a : Act) → good c ≡ false → c .timers .inhibit ≡ 0 → (acted c a .announced ≡ false) ⊎ (acted c a .timers .inhibit ≡ 0)
+stays-free : (c : Core) (a : Act) → good c ≡ false → c .timers .inhibit ≡ 0
+    → (acted c a .announced ≡ false) ⊎ (acted c a .timers .inhibit ≡ 0)
 stays-free c nothing g i = inr i
 stays-free c (enter o) g i = inr i
 stays-free c (reset r) g i = inr refl
@@ -72,13 +73,17 @@ module _ (n : ℕ) (h : Head) (q : node (h .core) ≡ n) (v : Valid h) where
       by-call (sample s) e b = b
       by-call slot e b = b
 
-  pub stays-told : (x : Call) → isCommand n stopsOrResets x ≡ false → good (h .core) ≡ false → h .core .announced ≡ false → step h x .core .announced ≡ false
+  pub stays-told : (x : Call) → isCommand n stopsOrResets x ≡ false → good (h .core) ≡ false → h .core .announced ≡ false
+      → step h x .core .announced ≡ false
   stays-told x e g t = ap (λ c. c .announced) (core-step h x) ∙ told-act (h .core) (meant h x) (no-halt x e) g t
 
-  pub stays-pending : (x : Call) → isGoodSample x ≡ false → isCommand n stopsOrResets x ≡ false → Pending (h .core) → Pending (step h x .core)
+  pub stays-pending : (x : Call) → isGoodSample x ≡ false → isCommand n stopsOrResets x ≡ false → Pending (h .core)
+      → Pending (step h x .core)
   stays-pending x g e p =
       record {
         alive = rw (core-step h x) (stays-live (h .core) (meant h x) (no-halt x e) (p .alive));
         lost = stays-missing h v x g (p .lost);
-        free = ⊎-elim (λ t. inl (stays-told x e (p .lost) t)) (λ i. rw (core-step h x) (stays-free (h .core) (meant h x) (p .lost) i)) (p .free);
+        free =
+            ⊎-elim (λ t. inl (stays-told x e (p .lost) t)) (λ i. rw (core-step h x) (stays-free (h .core) (meant h x) (p .lost) i))
+            (p .free);
       }

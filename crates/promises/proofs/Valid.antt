@@ -2,9 +2,9 @@
 use Prim.Native.Nat.{ℕ, _≤_}
 use native.Mathlib.Omega.{arith}
 use mathlib.Core.Path.{_≡_, refl, sym, _∙_}
-use mathlib.Core.Bool.{Bool, true, false, not, _&&_, _||_, and-true, and-false}
+use mathlib.Core.Bool.{Bool, true, false, not, _&&_, _||_, and-true}
 use borrow.Author.Tests.{not-true}
-use Rattle.cases.proofs.Cases.{both, true-false}
+use Rattle.cases.proofs.Cases.{both, either, true-false}
 use Rattle.entries.specs.declared.Identity.{Identity}
 use Rattle.entries.specs.Settings.{factory}
 use Rattle.dictionary.specs.Valid.{ValidIdentity}
@@ -12,31 +12,38 @@ use Rattle.dictionary.proofs.Laws.{laws as dictionary-laws}
 use Rattle.waiting.specs.Line.{places}
 use Rattle.waiting.proofs.Laws.{laws}
 use Rattle.parts.specs.declared.Head.{Head}
-use Rattle.promises.specs.States.{one, two, started}
-use Rattle.promises.specs.WaitingLine.{Kind, emergency, sdoReply, heartbeat, tpdo, flag, may}
-use Rattle.promises.specs.Acts.{Act, nothing, enter, reset, boot, idle, send, take, lose, time, sync, serve, acted, moments, settledTo, act}
+use Rattle.promises.specs.States.{started}
+use Rattle.promises.specs.WaitingLine.{Kind, emergency, isAlerting, mayStay, mayJoin}
+use Rattle.promises.specs.Acts.{Act, nothing, enter, reset, boot, idle, send, take, lose, time}
+use Rattle.promises.specs.Acts.{sync, serve, acted, momentsOf, settledTo, act}
 use Rattle.promises.specs.Calls.{Call, isSlot, meant, step}
 use Rattle.promises.specs.Valid.{waits, Valid}
 use Rattle.promises.proofs.Nothing.{act-nothing}
-use Rattle.promises.proofs.Waits.{sends, holds-act, waits-act}
+use Rattle.promises.proofs.Waits.{join-stay, sends, holds-act, waits-act}
 use Rattle.promises.proofs.Fits.{Fits, fits}
 use Rattle.promises.proofs.States.{named-act, fresh-act}
 use Rattle.promises.proofs.Device.{device-act}
 use Rattle.promises.proofs.Counts.{resting, timers-act}
 
--- A kind that waits afterwards may: m its moment, y and z whether it may before and after, w whether it waited.
-stays-may : (m y z s w : Bool) → (w ≡ true → y ≡ true) → ((m && z) || (not (y && not z) && (s && w))) ≡ true → z ≡ true
-stays-may m y true s w o e = refl
-stays-may m y false s w o e =
-    let u = both (not y) (s && w) (rw (and-false m, and-true y) at e) in
-    true-false (sym (o (both s w (u .1) .1)) ∙ not-true y (u .0))
+-- A kind that waits afterwards may stay: m its moment, j whether it may join, y
+-- and z whether it may stay before and after, w whether it waited.
+stays-may : (m j y z s w : Bool) → (j ≡ true → z ≡ true) → (w ≡ true → y ≡ true)
+    → ((m && j) || (not (y && not z) && (s && w))) ≡ true → z ≡ true
+stays-may m j y true s w i o e = refl
+stays-may m j y false s w i o e =
+    either (m && j) (not (y && true) && (s && w)) e
+    (λ t. i (both m j t .1))
+    (λ t.
+    let u = both (not (y && true)) (s && w) t in
+    true-false (sym (o (both s w (u .1) .1)) ∙ sym (and-true y) ∙ not-true (y && true) (u .0)))
 
 module _ (b : Bool) (h : Head) where
   -- any call that does something is the emergency's moment
-  joins-now : (a : Act) → Valid h → flag (moments (h .core) a) emergency ≡ true → may (acted (h .core) a) emergency ≡ true → waits (act b h a) emergency ≡ true
+  joins-now : (a : Act) → Valid h → momentsOf (h .core) a emergency ≡ true → isAlerting (acted (h .core) a) ≡ true
+      → waits (act b h a) emergency ≡ true
   joins-now a v m e = rw (waits-act b h a v emergency, m, e)
 
-  urgent-act : (a : Act) → Fits b (h .core) a → Valid h → may (acted (h .core) a) emergency ≡ true → waits (act b h a) emergency ≡ true
+  urgent-act : (a : Act) → Fits b (h .core) a → Valid h → isAlerting (acted (h .core) a) ≡ true → waits (act b h a) emergency ≡ true
   urgent-act nothing f v e = rw (f, act-nothing h) (v .urgent e)
   urgent-act (enter g) f v e = joins-now (enter g) v refl e
   urgent-act (reset r) f v e = joins-now (reset r) v refl e
@@ -49,10 +56,12 @@ module _ (b : Bool) (h : Head) where
   urgent-act sync f v e = joins-now sync v refl e
   urgent-act (serve s) f v e = joins-now (serve s) v refl e
 
-  only-act : (a : Act) → Valid h → (k : Kind) → waits (act b h a) k ≡ true → may (acted (h .core) a) k ≡ true
+  only-act : (a : Act) → Valid h → (k : Kind) → waits (act b h a) k ≡ true → mayStay (acted (h .core) a) k ≡ true
   only-act a v k e =
       let c = h .core in
-      stays-may (flag (moments c a) k) (may c k) (may (acted c a) k) (not (sends b h k)) (waits h k) (v .only k) (sym (waits-act b h a v k) ∙ e)
+      let later = acted c a in
+      stays-may (momentsOf c a k) (mayJoin later k) (mayStay c k) (mayStay later k) (not (sends b h k)) (waits h k)
+      (join-stay later k) (v .only k) (sym (waits-act b h a v k) ∙ e)
 
   valid-act : (a : Act) → Fits b (h .core) a → Valid h → Valid (act b h a)
   unfolding act settledTo
@@ -89,20 +98,13 @@ valid-started n i low high named =
       timers = resting (factory n .communication);
       fresh = λ _. (refl, refl);
       line = laws places .none;
-      only = none-waits;
+      only = λ k e. true-false (sym e);
       urgent = λ e. true-false (sym e);
     }
-  where
-    none-waits : (k : Kind) → waits (started n i) k ≡ true → may (started n i .core) k ≡ true
-    none-waits emergency e = e
-    none-waits sdoReply e = e
-    none-waits heartbeat e = e
-    none-waits (tpdo one) e = e
-    none-waits (tpdo two) e = e
 
 -- the emergency waits exactly while its condition holds
-pub emergency-exactly : (h : Head) → Valid h → waits h emergency ≡ may (h .core) emergency
-emergency-exactly h v = same (waits h emergency) (may (h .core) emergency) (v .only emergency) (v .urgent)
+pub emergency-exactly : (h : Head) → Valid h → waits h emergency ≡ isAlerting (h .core)
+emergency-exactly h v = same (waits h emergency) (isAlerting (h .core)) (v .only emergency) (v .urgent)
   where
     same : (t u : Bool) → (t ≡ true → u ≡ true) → (u ≡ true → t ≡ true) → t ≡ u
     same true u f g = sym (f refl)

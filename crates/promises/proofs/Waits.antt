@@ -1,40 +1,33 @@
 -- Who waits after an act, in closed form: the kinds that joined, and those that waited and neither were sent nor had their condition end.
 use Prim.Native.Nat.{ℕ}
 use native.Mathlib.Omega.{arith}
-use mathlib.Core.Path.{_≡_, refl}
-use mathlib.Core.Bool.{Bool, true, not, _&&_, _||_, and-true}
+use mathlib.Core.Path.{_≡_, sym, _∙_}
+use mathlib.Core.Bool.{Bool, true, false, not, _&&_, _||_}
 use mathlib.Core.List.{List}
 use lib.Dec.{eqb}
+use Rattle.cases.proofs.Cases.{test, true-false}
 use Rattle.waiting.specs.Line as line
-use Rattle.waiting.specs.Line.{places, order, has, first}
+use Rattle.waiting.specs.Line.{places, has, first}
 use Rattle.waiting.specs.Places.{waiting, Holds}
-use Rattle.waiting.specs.Calls.{after, Named}
-use Rattle.waiting.proofs.Laws.{laws, in-turn}
+use Rattle.waiting.specs.Calls.{after}
+use Rattle.waiting.proofs.Laws.{laws}
+use Rattle.parts.specs.declared.Core.{Core}
 use Rattle.parts.specs.declared.Head.{Head}
-use Rattle.promises.specs.States.{one, two}
-use Rattle.promises.specs.WaitingLine.{Kind, emergency, sdoReply, heartbeat, tpdo, number, kindOf, those, flag, may}
-use Rattle.promises.specs.Acts.{Act, acted, moments, goes, comes, settledTo, act}
+use Rattle.promises.specs.WaitingLine.{Kind, emergency, sdoReply, heartbeat, tpdo, number, mayStay, mayJoin}
+use Rattle.promises.specs.Acts.{Act, acted, momentsOf, goes, comes, settledTo, act}
 use Rattle.promises.specs.Valid.{waits, Valid}
+use Rattle.promises.proofs.KindNumbers.{has-those, named-those}
 
-kind-of : (k : Kind) → kindOf (number k) ≡ k
-kind-of emergency = refl
-kind-of sdoReply = refl
-kind-of heartbeat = refl
-kind-of (tpdo one) = refl
-kind-of (tpdo two) = refl
+-- Who may join may stay,
+pub join-stay : (c : Core) (k : Kind) → mayJoin c k ≡ true → mayStay c k ≡ true
+join-stay c emergency y = y
+join-stay c sdoReply y = y
+join-stay c heartbeat y = y
+join-stay c (tpdo w) y = y
 
-ordered : (k : Kind) → has (number k) order ≡ true
-ordered emergency = refl
-ordered sdoReply = refl
-ordered heartbeat = refl
-ordered (tpdo one) = refl
-ordered (tpdo two) = refl
-
-pub has-those : (t : Kind → Bool) (k : Kind) → has (number k) (those t) ≡ t k
-has-those t k = rw (in-turn .exactly (λ n. t (kindOf n)) order (number k), ordered k, kind-of k, and-true (t k))
-
-named-those : (t : Kind → Bool) → Named places (those t)
-named-those t = in-turn .named (λ n. t (kindOf n)) (in-turn .all-named)
+-- and who may not stay may not join.
+pub stay-join : (c : Core) (k : Kind) → mayStay c k ≡ false → mayJoin c k ≡ false
+stay-join c k n = test (mayJoin c k) (λ y. true-false (sym (join-stay c k y) ∙ n)) (λ y. y)
 
 -- whether a reply waits, in the line and in its places
 pub reply-waiting : (h : Head) → Valid h → has line.sdoReply (h .line) ≡ waits h sdoReply
@@ -45,24 +38,29 @@ abbrev pub sends : Bool → Head → Kind → Bool
 sends slot h k = slot && eqb (first (waiting (h .line))) (number k)
 
 module _ (slot : Bool) (h : Head) (a : Act) (v : Valid h) where
+  abbrev c : Core
+  c = h .core
+
+  abbrev later : Core
+  later = acted c a
+
   abbrev out : List ℕ
-  out = goes (h .core) (acted (h .core) a)
+  out = goes c later
 
   abbrev into : List ℕ
-  into = comes (moments (h .core) a) (acted (h .core) a)
+  into = comes (momentsOf c a) later
 
   pub holds-act : Holds places (act slot h a .line) (after slot out into (waiting (h .line)))
   unfolding act settledTo
-  holds-act = laws places .holds slot out into (named-those (λ k. flag (moments (h .core) a) k && may (acted (h .core) a) k)) (v .line)
+  holds-act = laws places .holds slot out into (named-those (λ k. momentsOf c a k && mayJoin later k)) (v .line)
 
   pub waits-act : (k : Kind)
       → waits (act slot h a) k
-      ≡ ((flag (moments (h .core) a) k && may (acted (h .core) a) k)
-      || (not (may (h .core) k && not (may (acted (h .core) a) k)) && (not (sends slot h k) && waits h k)))
+      ≡ ((momentsOf c a k && mayJoin later k) || (not (mayStay c k && not (mayStay later k)) && (not (sends slot h k) && waits h k)))
   waits-act k =
       rw (
         laws places .all holds-act,
         laws places .waits-after slot out into (waiting (h .line)) (number k) (v .line .kinds),
-        has-those (λ j. flag (moments (h .core) a) j && may (acted (h .core) a) j) k,
-        has-those (λ j. may (h .core) j && not (may (acted (h .core) a) j)) k,
+        has-those (λ j. momentsOf c a j && mayJoin later j) k,
+        has-those (λ j. mayStay c j && not (mayStay later j)) k,
       )

@@ -6,6 +6,8 @@ use mathlib.Core.Bool.{Bool, true, false, not}
 use borrow.Author.Tests.{eqb-true, not-true, ltb-false}
 use Rattle.cases.proofs.Cases.{by, both, test, true-false}
 use Rattle.can.specs.declared.Received.{Received}
+use Rattle.position.specs.Profile.{highestRaw}
+use Rattle.entries.specs.Keys.{heartbeatKey, emergencyKey}
 use Rattle.dictionary.specs.Accepted.{on}
 use Rattle.sdo.specs.Service.{Due, none, value, confirmation, abort, answer}
 use Rattle.waiting.specs.Line.{first}
@@ -14,14 +16,15 @@ use Rattle.parts.specs.declared.Core.{Core}
 use Rattle.parts.specs.declared.Head.{Head}
 use Rattle.parts.specs.declared.Sensor.{Sensor}
 use Rattle.parts.specs.declared.Sensor.the-variants.{Missing, Raw}
-use Rattle.promises.specs.States.{operational, stopped, preOperational, isInitialising, Which}
-use Rattle.promises.specs.WaitingLine.{Kind, emergency, sdoReply, heartbeat, tpdo, number, may}
+use Rattle.promises.specs.States.{operational, stopped, preOperational, isInitialising, PdoNumber}
+use Rattle.promises.specs.WaitingLine.{Kind, emergency, sdoReply, heartbeat, tpdo, number, mayStay}
 use Rattle.promises.specs.Acts.{Act, nothing, enter, reset, boot, idle, send, take, lose, time, sync, serve, acted}
 use Rattle.promises.specs.Calls.{Call, receive, tick, sample, slot, meant, step}
 use Rattle.promises.specs.Meant.{Requests, dueTo}
 use Rattle.promises.specs.Valid.{Valid}
-use Rattle.promises.specs.Withdrawals.{identifierKey, Withdrawal, resets, stops, leaves, loses, switches-off, beats-no-more, silenced, found, lost}
-use Rattle.promises.proofs.Slots.{no-may}
+use Rattle.promises.specs.Withdrawals.{identifierKey, Withdrawal, resets, stops, leaves, loses}
+use Rattle.promises.specs.Withdrawals.{switches-off, beats-no-more, silenced, found, lost}
+use Rattle.promises.proofs.Slots.{no-stay}
 use Rattle.promises.proofs.Meant.{core-step}
 use Rattle.promises.proofs.Causes.{Cause, cause}
 use Rattle.promises.proofs.Answers.{AtSlot, booting, idling, sending, at-slot}
@@ -46,7 +49,7 @@ module _ (h : Head) (f : Received) where
   c = h .core
 
   abbrev Ends : Kind → Act → Type 0
-  Ends k a = may c k ≡ true → may (acted c a) k ≡ false → Withdrawal h (receive f) k
+  Ends k a = mayStay c k ≡ true → mayStay (acted c a) k ≡ false → Withdrawal h (receive f) k
 
   -- by a request, and what is due to it
   beat-served : (x : Due) → Requests h f → dueTo h f ≡ x → Ends heartbeat (serve (answer (f .bytes) x))
@@ -54,24 +57,25 @@ module _ (h : Head) (f : Received) where
   beat-served (value w m) r e y n = goes-on y n
   beat-served (abort m) r e y n = goes-on y n
   beat-served (confirmation k v) r e y n =
-      let t = both (eqb k 0x1017_00) (eqb v 0) (sym (ends c (f .bytes) k v heartbeat y) ∙ ap not n) in
-      beats-no-more (record { requests = r; accepted = e ∙ ap₂ confirmation (eqb-true k 0x1017_00 (t .0)) (eqb-true v 0 (t .1)) })
+      let t = both (eqb k heartbeatKey) (eqb v 0) (sym (ends c (f .bytes) k v heartbeat y) ∙ ap not n) in
+      beats-no-more (record { requests = r; accepted = e ∙ ap₂ confirmation (eqb-true k heartbeatKey (t .0)) (eqb-true v 0 (t .1)) })
 
   alert-served : (x : Due) → Requests h f → dueTo h f ≡ x → Ends emergency (serve (answer (f .bytes) x))
   alert-served none r e y n = goes-on y n
   alert-served (value w m) r e y n = goes-on y n
   alert-served (abort m) r e y n = goes-on y n
   alert-served (confirmation k v) r e y n =
-      let t = both (eqb k 0x1014_00) (not (on v)) (sym (ends c (f .bytes) k v emergency y) ∙ ap not n) in
-      silenced (record { requests = r; accepted = e ∙ ap (λ j. confirmation j v) (eqb-true k 0x1014_00 (t .0)) }) (not-true _ (t .1))
+      let t = both (eqb k emergencyKey) (not (on v)) (sym (ends c (f .bytes) k v emergency y) ∙ ap not n) in
+      silenced (record { requests = r; accepted = e ∙ ap (λ j. confirmation j v) (eqb-true k emergencyKey (t .0)) }) (not-true _ (t .1))
 
-  tpdo-served : (w : Which) (x : Due) → Requests h f → dueTo h f ≡ x → Ends (tpdo w) (serve (answer (f .bytes) x))
+  tpdo-served : (w : PdoNumber) (x : Due) → Requests h f → dueTo h f ≡ x → Ends (tpdo w) (serve (answer (f .bytes) x))
   tpdo-served w none r e y n = goes-on y n
   tpdo-served w (value u m) r e y n = goes-on y n
   tpdo-served w (abort m) r e y n = goes-on y n
   tpdo-served w (confirmation k v) r e y n =
       let t = both (eqb k (identifierKey w)) (not (on v)) (sym (ends c (f .bytes) k v (tpdo w) y) ∙ ap not n) in
-      switches-off (record { requests = r; accepted = e ∙ ap (λ j. confirmation j v) (eqb-true k (identifierKey w) (t .0)) }) (not-true _ (t .1))
+      switches-off (record { requests = r; accepted = e ∙ ap (λ j. confirmation j v) (eqb-true k (identifierKey w) (t .0)) })
+      (not-true _ (t .1))
 
   -- by a frame
   by-frame : (a : Act) (k : Kind) → Cause h f a → Ends k a
@@ -104,16 +108,19 @@ module _ (h : Head) (f : Received) where
 
 module _ (h : Head) (v : Valid h) where
   abbrev Same : Kind → Act → Type 0
-  Same k a = may (acted (h .core) a) k ≡ may (h .core) k
+  Same k a = mayStay (acted (h .core) a) k ≡ mayStay (h .core) k
 
   -- a tick ends none
-  by-tick : (k : Kind) → may (h .core) k ≡ true → Same k (meant h tick)
-  by-tick emergency y = by (Same emergency) (isInitialising (h .core)) (λ _. refl) (λ _. rw (eqb-true (h .core .timers .inhibit) 0 (alerts (h .core) y .rested)))
+  by-tick : (k : Kind) → mayStay (h .core) k ≡ true → Same k (meant h tick)
+  by-tick emergency y =
+      by (Same emergency) (isInitialising (h .core)) (λ _. refl)
+      (λ _. rw (eqb-true (h .core .timers .inhibit) 0 (alerts (h .core) y .rested)))
   by-tick sdoReply y = by (Same sdoReply) (isInitialising (h .core)) (λ _. refl) (λ _. refl)
   by-tick heartbeat y = by (Same heartbeat) (isInitialising (h .core)) (λ _. refl) (λ _. refl)
   by-tick (tpdo w) y = by (Same (tpdo w)) (isInitialising (h .core)) (λ _. refl) (λ _. refl)
 
-  by-sample : (s : Sensor) (k : Kind) → may (h .core) k ≡ true → may (acted (h .core) (meant h (sample s))) k ≡ false → Withdrawal h (sample s) k
+  by-sample : (s : Sensor) (k : Kind) → mayStay (h .core) k ≡ true → mayStay (acted (h .core) (meant h (sample s))) k ≡ false
+      → Withdrawal h (sample s) k
   by-sample Missing emergency y n =
       let s = alerts (h .core) y in
       test (h .core .announced) (λ a. true-false (rw (s .lives, s .is-on, s .rested, a) at n)) (λ a. lost a)
@@ -122,17 +129,19 @@ module _ (h : Head) (v : Valid h) where
   by-sample Missing (tpdo w) y n = loses
   by-sample (Raw r) emergency y n =
       let s = alerts (h .core) y in
-      test (ltb 1048575 r) (λ t. goes-on y (rw t at n))
-      (λ t. test (h .core .announced) (λ a. found (ltb-false 1048575 r t) a) (λ a. true-false (rw (t, s .lives, s .is-on, s .rested, a) at n)))
-  by-sample (Raw r) sdoReply y n = goes-on y (sym (by (Same sdoReply) (ltb 1048575 r) (λ _. refl) (λ _. refl)) ∙ n)
-  by-sample (Raw r) heartbeat y n = goes-on y (sym (by (Same heartbeat) (ltb 1048575 r) (λ _. refl) (λ _. refl)) ∙ n)
+      test (ltb highestRaw r) (λ t. goes-on y (rw t at n))
+      (λ t. test (h .core .announced) (λ a. found (ltb-false highestRaw r t) a)
+      (λ a. true-false (rw (t, s .lives, s .is-on, s .rested, a) at n)))
+  by-sample (Raw r) sdoReply y n = goes-on y (sym (by (Same sdoReply) (ltb highestRaw r) (λ _. refl) (λ _. refl)) ∙ n)
+  by-sample (Raw r) heartbeat y n = goes-on y (sym (by (Same heartbeat) (ltb highestRaw r) (λ _. refl) (λ _. refl)) ∙ n)
   by-sample (Raw r) (tpdo w) y n =
       let s = shows (h .core) w y in
-      goes-on y (sym (by (Same (tpdo w)) (ltb 1048575 r) (λ _. refl) (λ _. rw (s .operates, s .is-on, s .is-good))) ∙ n)
+      goes-on y (sym (by (Same (tpdo w)) (ltb highestRaw r) (λ _. refl) (λ _. rw (s .operates, s .is-on, s .is-good))) ∙ n)
 
   -- a slot ends only the emergency's, by sending it
-  by-slot : (a : Act) → AtSlot h a → (k : Kind) → may (h .core) k ≡ true → may (acted (h .core) a) k ≡ false → first (waiting (h .line)) ≡ number k
-  by-slot boot (booting i) k y n = goes-on y (no-may (h .core) k i)
+  by-slot : (a : Act) → AtSlot h a → (k : Kind) → mayStay (h .core) k ≡ true → mayStay (acted (h .core) a) k ≡ false
+      → first (waiting (h .line)) ≡ number k
+  by-slot boot (booting i) k y n = goes-on y (no-stay (h .core) k i)
   by-slot idle (idling i e) k y n = goes-on y n
   by-slot (send emergency) (sending j i e w) emergency y n = e
   by-slot (send emergency) (sending j i e w) sdoReply y n = goes-on y n
@@ -143,13 +152,14 @@ module _ (h : Head) (v : Valid h) where
   by-slot (send (tpdo x)) (sending j i e w) k y n = goes-on y n
 
   abbrev Ended : Call → Kind → Type 0
-  Ended x k = may (step h x .core) k ≡ false
+  Ended x k = mayStay (step h x .core) k ≡ false
 
-  core-ended : (x : Call) (k : Kind) → Ended x k → may (acted (h .core) (meant h x)) k ≡ false
-  core-ended x k n = sym (ap (λ c. may c k) (core-step h x)) ∙ n
+  core-ended : (x : Call) (k : Kind) → Ended x k → mayStay (acted (h .core) (meant h x)) k ≡ false
+  core-ended x k n = sym (ap (λ c. mayStay c k) (core-step h x)) ∙ n
 
   -- A condition that ends, ends by the slot that sends the kind or by a withdrawal of 01's list.
-  pub listed : (x : Call) (k : Kind) → may (h .core) k ≡ true → Ended x k → ((x ≡ slot) × (first (waiting (h .line)) ≡ number k)) ⊎ Withdrawal h x k
+  pub listed : (x : Call) (k : Kind) → mayStay (h .core) k ≡ true → Ended x k
+      → ((x ≡ slot) × (first (waiting (h .line)) ≡ number k)) ⊎ Withdrawal h x k
   listed (receive f) k y n = inr (by-frame h f (meant h (receive f)) k (cause h f v) y (core-ended (receive f) k n))
   listed tick k y n = goes-on y (sym (by-tick k y) ∙ core-ended tick k n)
   listed (sample s) k y n = inr (by-sample s k y (core-ended (sample s) k n))

@@ -20,16 +20,16 @@ use Rattle.parts.specs.declared.Nmt.{Nmt}
 use Rattle.parts.specs.declared.Timers.{Timers}
 use Rattle.parts.specs.declared.Core.{Core}
 use Rattle.parts.specs.declared.Head.{Head}
-use Rattle.parts.specs.declared.Flags.{Flags}
-use Rattle.promises.specs.States.{Goal, operational, preOperational, code, state, initialising, isIn, Reset, restored, communication, good, uncounted, atRest, missingReading}
-use Rattle.promises.specs.WaitingLine.{Kind, emergency, sdoReply, heartbeat, tpdo, those, flag, flags, may, bootUpFrame, frameOf}
+use Rattle.promises.specs.States.{CommandedState, operational, preOperational, code, state, initialising, isIn, Reset}
+use Rattle.promises.specs.States.{restored, communication, good, pdo, clock, uncounted, atRest, missingReading}
+use Rattle.promises.specs.WaitingLine.{Kind, emergency, sdoReply, heartbeat, tpdo, those, mayStay, mayJoin, bootUpFrame, frameOf}
 use Rattle.promises.specs.Timers.{inhibitTicks, completes, synchronous, eventDue, syncDue, timersTicked, timersSynced, timersWritten}
 
 pub data Act : Type 0 where
   -- a call that has no effect
   nothing : Act
   -- a state is entered by a command
-  enter : Goal → Act
+  enter : CommandedState → Act
   reset : Reset → Act
   -- the boot-up frame is sent
   boot : Act
@@ -125,57 +125,80 @@ acted c time = timing c (timersTicked (isIn operational c) (communication c) (c 
 acted c sync = timing c (timersSynced (communication c) (c .timers))
 acted c (serve s) = serving c s
 
--- The moments at which a kind joins, if it may, in the order emergency, SDO reply, heartbeat, TPDO1, TPDO2.
+-- The moments at which a kind joins, if it may.
+abbrev pub noMoment : Kind → Bool
+noMoment k = false
+
 -- The emergency's is any call that does something, so that it waits exactly while its condition holds.
-abbrev pub emergencyOnly : Flags
-emergencyOnly = flags true false false false false
+abbrev pub emergencyOnly : Kind → Bool
+emergencyOnly emergency = true
+emergencyOnly sdoReply = false
+emergencyOnly heartbeat = false
+emergencyOnly (tpdo w) = false
 
 -- Types 254 and 255: on entering Operational
 abbrev pub entryDue : Nmt → Pdo → Bool
 entryDue entered p = eqb (entered .code) (code operational) && not (synchronous p)
 
-abbrev pub entryMoments : Communication → Nmt → Flags
-entryMoments s entered = flags true false false (entryDue entered (s .pdo1)) (entryDue entered (s .pdo2))
+abbrev pub entryMoments : Communication → Nmt → Kind → Bool
+entryMoments s entered emergency = true
+entryMoments s entered sdoReply = false
+entryMoments s entered heartbeat = false
+entryMoments s entered (tpdo w) = entryDue entered (pdo s w)
 
 -- the heartbeat joins every H ticks; types 254 and 255: every E ticks
-abbrev pub timeMoments : Communication → Timers → Flags
-timeMoments s t = flags true false (completes (s .heartbeat) (t .heartbeat)) (eventDue (s .pdo1) (t .pdo1)) (eventDue (s .pdo2) (t .pdo2))
+abbrev pub timeMoments : Communication → Timers → Kind → Bool
+timeMoments s t emergency = true
+timeMoments s t sdoReply = false
+timeMoments s t heartbeat = completes (s .heartbeat) (t .heartbeat)
+timeMoments s t (tpdo w) = eventDue (pdo s w) (clock t w)
 
 -- Types 1..240: at each n-th SYNC
-abbrev pub syncMoments : Communication → Timers → Flags
-syncMoments s t = flags true false false (syncDue (s .pdo1) (t .pdo1)) (syncDue (s .pdo2) (t .pdo2))
+abbrev pub syncMoments : Communication → Timers → Kind → Bool
+syncMoments s t emergency = true
+syncMoments s t sdoReply = false
+syncMoments s t heartbeat = false
+syncMoments s t (tpdo w) = syncDue (pdo s w) (clock t w)
 
 -- What is due is the reply that joins; a withdrawal may still take it.
-abbrev pub requestMoments : Flags
-requestMoments = flags true true false false false
+abbrev pub requestMoments : Kind → Bool
+requestMoments emergency = true
+requestMoments sdoReply = true
+requestMoments heartbeat = false
+requestMoments (tpdo w) = false
 
-abbrev pub moments : Core → Act → Flags
-moments c nothing = flags false false false false false
-moments c (enter g) = entryMoments (communication c) (state g)
-moments c (reset r) = emergencyOnly
-moments c boot = emergencyOnly
-moments c idle = emergencyOnly
-moments c (send k) = emergencyOnly
-moments c (take r) = emergencyOnly
-moments c lose = emergencyOnly
-moments c time = timeMoments (communication c) (c .timers)
-moments c sync = syncMoments (communication c) (c .timers)
-moments c (serve s) = requestMoments
+-- by the core before the act and the core after it
+abbrev pub moments : Core → Core → Act → Kind → Bool
+moments before after nothing = noMoment
+moments before after (enter g) = entryMoments (communication before) (state g)
+moments before after (reset r) = emergencyOnly
+moments before after boot = emergencyOnly
+moments before after idle = emergencyOnly
+moments before after (send k) = emergencyOnly
+moments before after (take r) = emergencyOnly
+moments before after lose = emergencyOnly
+moments before after time = timeMoments (communication before) (before .timers)
+moments before after sync = syncMoments (communication before) (before .timers)
+moments before after (serve s) = requestMoments
 
 -- A kind goes when its condition ends; it joins when it is its moment and it may. A due moment with a missing reading is passed over.
 abbrev pub goes : Core → Core → List ℕ
-goes before after = those (λ k. may before k && not (may after k))
+goes before after = those (λ k. mayStay before k && not (mayStay after k))
 
-abbrev pub comes : Flags → Core → List ℕ
-comes due after = those (λ k. flag due k && may after k)
+abbrev pub comes : (Kind → Bool) → Core → List ℕ
+comes due after = those (λ k. due k && mayJoin after k)
 
--- A head with another core, whose line has settled; `slot`: its first was sent. How kinds join and are withdrawn is `afterIn` of crate waiting:
--- a kind joins at the end, one that waits already keeps its place, several join in the order just given.
-unfoldable pub settledTo : Bool → Head → Core → Flags → Head
+-- A head with another core, whose line has settled; `slot`: its first was sent. How kinds join and are withdrawn is `afterIn` of
+-- crate waiting: a kind joins at the end, one that waits already keeps its place, several join in the order just given.
+unfoldable pub settledTo : Bool → Head → Core → (Kind → Bool) → Head
 settledTo slot h after due = record { core = after; line = afterIn slot (goes (h .core) after) (comes due after) (h .line) }
 
+-- whose moment an act on a core is
+abbrev pub momentsOf : Core → Act → Kind → Bool
+momentsOf c a = moments c (acted c a) a
+
 unfoldable pub act : Bool → Head → Act → Head
-act slot h a = settledTo slot h (acted (h .core) a) (moments (h .core) a)
+act slot h a = settledTo slot h (acted (h .core) a) (momentsOf (h .core) a)
 
 -- What an act sends.
 abbrev pub frameBy : Core → Act → Option Frame

@@ -1,15 +1,16 @@
--- The calls, what each means to a head in its state, and what it answers: 01's chapters "The head and its neighbours" and "Refusal numbers",
--- with the guards that "States", "The waiting line" (SYNC) and "Service requests" set.
+-- The calls, what each means to a head in its state, and what it answers: 01's chapters "The head and its neighbours" and
+-- "Refusal numbers", with the guards that "States", "The waiting line" (SYNC) and "Service requests" set.
 use Prim.Native.Nat.{ℕ, _+_}
 use lib.Dec.{eqb, leb, ltb}
 use mathlib.Core.Bool.{Bool, true, false, not, _&&_, _||_, cond}
-use mathlib.Core.List.{[], _∷_}
+use mathlib.Core.List.{[], _∷_, map}
 use mathlib.Core.Option.{Option, none, some}
 use Rattle.cases.specs.Cases.{firstOf}
 use Rattle.cases.specs.Tests.{within}
 use Rattle.can.specs.declared.Frame.{Frame}
 use Rattle.can.specs.declared.Received.{Received}
 use Rattle.can.specs.Frame.{refusalOf}
+use Rattle.position.specs.Profile.{highestRaw}
 use Rattle.entries.specs.declared.Identity.{Identity}
 use Rattle.sdo.specs.declared.reply.Served.{Served}
 use Rattle.sdo.specs.Reply.{replies}
@@ -22,8 +23,9 @@ use Rattle.parts.specs.declared.Answer.{Answer}
 use Rattle.parts.specs.declared.Sent.{Sent}
 use Rattle.parts.specs.declared.Sensor.{Sensor}
 use Rattle.parts.specs.declared.Sensor.the-variants.{Missing, Raw}
-use Rattle.promises.specs.States.{operational, isIn, isInitialising, isLive, node, started, Command, noCommand, toEnter, toReset, commandOf}
-use Rattle.promises.specs.WaitingLine.{kindOf, frame}
+use Rattle.promises.specs.States.{operational, isIn, isInitialising, isLive, node, started}
+use Rattle.promises.specs.States.{Command, noCommand, toEnter, toReset, commandOf}
+use Rattle.promises.specs.WaitingLine.{kinds, number, frame}
 use Rattle.promises.specs.Acts.{Act, nothing, enter, reset, boot, idle, send, take, lose, time, sync, serve, act, frameBy}
 
 -- Calls, after power-up: frame received, tick (1 ms), sample (a raw position or "missing"), slot.
@@ -53,11 +55,14 @@ synchronised c length = cond (leb length 1 && isIn operational c) sync nothing
 abbrev pub served : Served → Act
 served s = cond (replies (s .effect)) (serve s) nothing
 
--- Identifier 600h+N, data, length 8, Pre-operational or Operational; otherwise no effect. While a reply waits, a further request has no effect.
+-- Identifier 600h+N, data, length 8, Pre-operational or Operational; otherwise no
+-- effect. While a reply waits, a further request has no effect.
 abbrev pub requested : Head → Received → Act
 requested h f =
     let c = h .core in
-    cond (eqb (f .length) 8 && isLive c && not (has line.sdoReply (h .line))) (served (answer (f .bytes) (due (c .device) (isIn operational c) (f .bytes)))) nothing
+    cond (eqb (f .length) 8 && isLive c && not (has line.sdoReply (h .line)))
+    (served (answer (f .bytes) (due (c .device) (isIn operational c) (f .bytes))))
+    nothing
 
 -- A frame neither refused nor meant for the head changes nothing.
 abbrev pub heardUnrefused : Head → Received → Act
@@ -81,16 +86,20 @@ timed c = cond (isInitialising c) nothing time
 -- raw sample above 1,048,575
 abbrev pub badSample : Sensor → Bool
 badSample Missing = false
-badSample (Raw r) = ltb 1048575 r
+badSample (Raw r) = ltb highestRaw r
 
 -- In Initialising .. samples are taken, as in every state.
 abbrev pub sampledAs : Sensor → Act
 sampledAs Missing = lose
 sampledAs (Raw r) = cond (badSample (Raw r)) nothing (take r)
 
--- The slot that sends the boot-up frame enters Pre-operational. A slot sends the first. k is the first in the line, 0 for none.
+-- A slot sends the first. k is the first in the line: a kind's number, or none's.
+abbrev pub sentAs : ℕ → Act
+sentAs k = firstOf (map (λ kind. (eqb k (number kind), send kind)) kinds) idle
+
+-- The slot that sends the boot-up frame enters Pre-operational.
 abbrev pub sentBy : Core → ℕ → Act
-sentBy c k = firstOf ((isInitialising c, boot) ∷ (eqb k 0, idle) ∷ []) (send (kindOf k))
+sentBy c k = cond (isInitialising c) boot (sentAs k)
 
 -- What a call means.
 abbrev pub meant : Head → Call → Act

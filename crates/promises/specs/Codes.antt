@@ -3,24 +3,22 @@ use Prim.Native.Nat.{ℕ, _+_}
 use lib.Dec.{eqb}
 use mathlib.Core.Path.{_≡_}
 use mathlib.Core.Bool.{Bool, true, false, cond}
-use mathlib.Core.List.{List, [], _∷_, _++_}
+use mathlib.Core.List.{List, [], _∷_}
 use mathlib.Core.Option.{some}
 use Rattle.cases.specs.Cases.{firstOf}
 use Rattle.can.specs.declared.Received.{Received}
 use Rattle.dictionary.specs.declared.read.Shown.the-variants.{Number}
-use Rattle.sdo.specs.Worked.{bytes}
 use Rattle.waiting.specs.Line.{first}
 use Rattle.waiting.specs.Places.{waiting}
 use Rattle.parts.specs.declared.Head.{Head}
-use Rattle.promises.specs.States.{operational, stopped, preOperational, isInitialising, ofNode, ofCommunication, Which, one, two, Command, toEnter, toReset}
+use Rattle.promises.specs.States.{operational, stopped, preOperational, isInitialising, ofNode}
+use Rattle.promises.specs.States.{ofCommunication, PdoNumber, one, two, Command, toEnter, toReset}
 use Rattle.promises.specs.WaitingLine.{Kind, heartbeat, tpdo, number, frame}
 use Rattle.promises.specs.Calls.{Call, receive, tick, sample, slot, slotted}
 use Rattle.promises.specs.Meant.{Commands}
 use Rattle.promises.specs.Histories.{after, PowerUp, powered}
 use Rattle.promises.specs.Readings.{readsIn}
 use Rattle.promises.specs.Gap.{nodeOf, isCommand}
-use Rattle.promises.specs.Node1.{node1, writes, command, sync}
-use Rattle.promises.specs.Worked.{answer, sends, missing, at}
 
 -- an NMT command to node n whose first byte is b
 abbrev pub says : ℕ → ℕ → Call → Bool
@@ -28,7 +26,8 @@ says n b c = isCommand n (λ x. eqb x b) c
 
 -- The state's code after a call, `present` before it: Stopped 04h, Operational 05h, Pre-operational 7Fh; 00h is Initialising.
 abbrev pub codeBy : ℕ → ℕ → Call → ℕ
--- In Initialising frames have no effect. 01h Operational, 02h Stopped, 80h Pre-operational, 81h reset node, 82h reset communication; others have no effect.
+-- In Initialising frames have no effect. 01h Operational, 02h Stopped, 80h
+-- Pre-operational, 81h reset node, 82h reset communication; others have no effect.
 codeBy n present (receive f) =
     cond (eqb present 0x00) 0x00
     (firstOf (
@@ -54,7 +53,8 @@ codeAfter n cs = codeFrom n 0x00 cs
 -- 01h Operational, 02h Stopped, 80h Pre-operational, 81h reset node, 82h reset communication
 abbrev pub commandBytes : List (ℕ × Command)
 commandBytes =
-    (0x01, toEnter operational) ∷ (0x02, toEnter stopped) ∷ (0x80, toEnter preOperational) ∷ (0x81, toReset ofNode) ∷ (0x82, toReset ofCommunication) ∷ []
+    (0x01, toEnter operational) ∷ (0x02, toEnter stopped) ∷ (0x80, toEnter preOperational) ∷ (0x81, toReset ofNode)
+    ∷ (0x82, toReset ofCommunication) ∷ []
 
 -- what holds of each of a list
 abbrev pub All : {A : Type 0} → (A → Type 0) → List A → Type 0
@@ -68,7 +68,7 @@ IsSaid x =
     isInitialising (h .core) ≡ false → says (nodeOf p) (x .0) (receive f) ≡ true → Commands h f (x .1)
 
 -- whose parameters, 1800h or 1801h
-abbrev pub parameters : Which → ℕ
+abbrev pub parameters : PdoNumber → ℕ
 parameters one = 0x1800
 parameters two = 0x1801
 
@@ -83,35 +83,6 @@ pub record Codes : Type 0 where
   pub beats : (p : PowerUp) (cs : List Call) → let h = after (powered p) cs in IsFirst heartbeat h
       → (slotted h .waited ≡ true) × (slotted h .frame ≡ frame (0x700 + nodeOf p) 1 (codeAfter (nodeOf p) cs ∷ []))
   -- TPDO: 4 bytes; the identifier is that of its own sub 1
-  pub shows : (p : PowerUp) (cs : List Call) (w : Which) → let h = after (powered p) cs in IsFirst (tpdo w) h
-      → (slotted h .waited ≡ true) × (slotted h .frame .length ≡ 4) × (readsIn h (parameters w) 1 ≡ some (Number (slotted h .frame .identifier)))
-
--- Node 1, 1017h = 1, so that each tick is a heartbeat's.
-abbrev pub beating : List Call
-beating = missing ++ writes (bytes 0x2B 0x17 0x10 0x00 0x01 0x00 0 0)
-
--- then a tick: the heartbeat is the first of the line, and says the code
-pub record Beats (cs : List Call) (code : ℕ) : Type 0 where
-  pub is-first : IsFirst heartbeat (after node1 (cs ++ tick ∷ []))
-  pub its-code : codeAfter 1 (cs ++ tick ∷ []) ≡ code
-  pub sent : answer (after node1 (cs ++ tick ∷ [])) ≡ sends 0x701 1 (code ∷ [])
-
--- After the calls the slot sends a TPDO of this identifier, the position 100.
-pub record Shows (cs : List Call) (w : Which) (identifier : ℕ) : Type 0 where
-  pub is-first : IsFirst (tpdo w) (after node1 cs)
-  pub sent : answer (after node1 cs) ≡ sends identifier 4 (100 ∷ [])
-
-pub record CodesMet : Type 0 where
-  pub pre-operational : Beats beating 0x7F
-  pub operational : Beats (beating ++ command 0x01 ∷ []) 0x05
-  pub stopped : Beats (beating ++ command 0x02 ∷ []) 0x04
-  pub again : Beats (beating ++ command 0x02 ∷ command 0x80 ∷ []) 0x7F
-  -- the node has booted, and 81h is said to it
-  pub is-booted : isInitialising (after node1 beating .core) ≡ false
-  pub is-said : says 1 0x81 (command 0x81) ≡ true
-  -- 81h, and 01h has no effect in Initialising; 82h, and the boot-up frame is sent
-  pub reset : codeAfter 1 (beating ++ command 0x81 ∷ command 0x01 ∷ []) ≡ 0x00
-  pub booted : codeAfter 1 (beating ++ command 0x82 ∷ slot ∷ []) ≡ 0x7F
-  -- on entering Operational TPDO1 is sent, with 181h; at a SYNC TPDO2, with 281h
-  pub tpdo1 : Shows (missing ++ at 100 ++ command 0x01 ∷ []) one 0x181
-  pub tpdo2 : Shows (missing ++ at 100 ++ command 0x01 ∷ slot ∷ sync ∷ []) two 0x281
+  pub shows : (p : PowerUp) (cs : List Call) (w : PdoNumber) → let h = after (powered p) cs in IsFirst (tpdo w) h
+      → (slotted h .waited ≡ true) × (slotted h .frame .length ≡ 4)
+      × (readsIn h (parameters w) 1 ≡ some (Number (slotted h .frame .identifier)))

@@ -1,6 +1,7 @@
--- Demand 1, in the customer's words: "Any frame, sample or tick may reach the head in any network state, and the host may ask for a frame to send at
--- any moment. Each call ends. A call is refused for exactly the inputs that 01 lists; it then returns the number listed there, and a head that
--- already ran is as it was before." That each call ends needs no theorem: the checker admits no function that may not return.
+-- Demand 1, in the customer's words: "Any frame, sample or tick may reach the head in any network state, and
+-- the host may ask for a frame to send at any moment. Each call ends. A call is refused for exactly the inputs
+-- that 01 lists; it then returns the number listed there, and a head that already ran is as it was before."
+-- That each call ends needs no theorem: the checker admits no function that may not return.
 use Prim.Native.Nat.{ℕ, _<_, _≤_}
 use mathlib.Core.Path.{_≡_}
 use mathlib.Core.Logic.{_↔_, _⊎_}

@@ -1,6 +1,6 @@
--- Demand 2, in the customer's words: "The head behaves as CiA 301 and CiA 406 require in the form 01 gives them. Each service request that 01 has the head
--- serve gets the value, the confirmation or the abort code that is due. An accepted write has exactly the effects named for it, an aborted write
--- alters no entry, and a position is the exact result of scaling, direction, preset and range."
+-- Demand 2, in the customer's words: "The head behaves as CiA 301 and CiA 406 require in the form 01 gives them. Each service request that
+-- 01 has the head serve gets the value, the confirmation or the abort code that is due. An accepted write has exactly the effects named for
+-- it, an aborted write alters no entry, and a position is the exact result of scaling, direction, preset and range."
 use mathlib.Core.List.{List}
 use Rattle.parts.specs.declared.Head.{Head}
 use Rattle.parts.specs.declared.Sensor.the-variants.{Missing}
@@ -26,7 +26,8 @@ pub record Demand2 : Type 0 where
   pub resets : Resets
   -- when each kind joins the waiting line;
   pub moments : (p : PowerUp) (cs : List Call) → Moments p cs
-  -- 1003h counts good-to-missing changes since the list was emptied, at most 4; 6004h is blank exactly while missing, 1001h and 6503h say so;
+  -- 1003h counts good-to-missing changes since the list was emptied, at most 4;
+  -- 6004h is blank exactly while missing, 1001h and 6503h say so;
   pub error-list : (p : PowerUp) (cs : List Call) → ErrorList p cs
   pub tells : (p : PowerUp) (cs : List Call) → Tells (after (powered p) cs) (lastSample Missing cs)
   -- P1 to P12, and the session that 01 prints.

@@ -1,25 +1,17 @@
 -- What a service request does: an accepted write has exactly the effects named for it, an aborted write alters no entry.
--- The effects are lists and tests by the key of the entry that is written, to be laid beside 01's chapters "Entries", "Position" and "The waiting line".
-use Prim.Native.Nat.{ℕ, _+_, _/_, _%_}
+-- What the entries then read is a list of crate dictionary (`effects`); what is counted anew, and what goes and comes in
+-- the line, are tests by the key of the entry that is written, to be laid beside 01's chapter "The waiting line".
+use Prim.Native.Nat.{ℕ, _+_}
 use lib.Dec.{eqb}
-use lib.IntN.{pos, _-ℤ_}
 use mathlib.Core.Path.{_≡_}
 use mathlib.Core.Bool.{Bool, true, false, not, _&&_, _||_, cond}
-use mathlib.Core.List.{List, [], _∷_, _++_, map}
-use mathlib.Core.Option.{Option, none, some}
-use Rattle.can.specs.Number.{lowFirst}
-use Rattle.can.specs.Signed.{twos}
+use mathlib.Core.List.{[], _∷_, _++_, map}
+use mathlib.Core.Option.{none, some}
 use Rattle.can.specs.declared.Received.{Received}
-use Rattle.position.specs.Position.{directed, position}
-use Rattle.entries.specs.declared.Device.{Device}
-use Rattle.entries.specs.declared.Settings.{Settings}
-use Rattle.entries.specs.Settings.{factory}
-use Rattle.entries.specs.Table.{missing, table, keyOf}
-use Rattle.dictionary.specs.declared.read.Shown.{Shown}
-use Rattle.dictionary.specs.declared.read.Shown.the-variants.{Blank, Number}
+use Rattle.entries.specs.Table.{keyOf}
+use Rattle.dictionary.specs.declared.read.Shown.the-variants.{Number}
 use Rattle.dictionary.specs.Accepted.{on}
-use Rattle.dictionary.specs.Writes.{rangeFor, rescaledTo}
-use Rattle.dictionary.specs.Worked.{takeAll, writes as allWrites}
+use Rattle.dictionary.specs.Effects.{effects, anew, savedBy, readBack}
 use Rattle.sdo.specs.Request.{indexOf, subOf}
 use Rattle.sdo.specs.Service.{value, confirmation, abort, answer}
 use Rattle.sdo.specs.Service as service
@@ -31,79 +23,27 @@ use Rattle.waiting.specs.Calls.{withdraws}
 use Rattle.parts.specs.declared.Timers.{Timers}
 use Rattle.parts.specs.declared.Core.{Core}
 use Rattle.parts.specs.declared.Head.{Head}
-use Rattle.parts.specs.declared.Sensor.the-variants.{Raw}
-use Rattle.promises.specs.States.{operational, isIn, communication, good, Which, one, two, pdo, clock}
+use Rattle.promises.specs.States.{operational, isIn, communication, good, PdoNumber, one, two, pdo, clock}
 use Rattle.promises.specs.WaitingLine.{Kind, emergency, sdoReply, heartbeat, tpdo, those, mayAlert}
-use Rattle.promises.specs.Calls.{Call, sample, slot, received}
+use Rattle.promises.specs.Calls.{received}
 use Rattle.promises.specs.Valid.{waits}
 use Rattle.promises.specs.Meant.{Requests, dueTo}
-use Rattle.promises.specs.Histories.{after, Reachable}
-use Rattle.promises.specs.Node1.{node1, toNode1, writes}
+use Rattle.promises.specs.Histories.{Reachable}
 use Rattle.promises.specs.Withdrawals.{identifierKey}
 use Rattle.promises.specs.Readings.{readsIn}
 
--- what a list has for the key k; a where it has nothing
-abbrev pub given : {A : Type 0} → List (ℕ × A) → ℕ → A → A
-given [] k a = a
-given (e ∷ es) k a = cond (eqb k (e .0)) (e .1) (given es k a)
-
--- sets 6003h and the offset to 0: the position is then that of these numbers, blank while missing
-abbrev pub rescaled : Device → ℕ → ℕ → ℕ → List (ℕ × Shown)
-rescaled d operating range step =
-    let position′ = position (rescaledTo operating range step) (d .reading .raw) in
-    (0x6003_00, Number 0) ∷ (0x6509_00, Number 0) ∷ (0x6004_00, cond (missing d) Blank (Number position′)) ∷ []
-
--- For a write of v: by the entry written the entries that read anew, and what, of a device that is Operational or not.
-abbrev pub named : Device → Bool → ℕ → List (ℕ × List (ℕ × Shown))
-named d o v =
-    let p = d .settings .profile in
-    -- only 0 accepted, empties the list; 1003-1..4 beyond the count are blank
-    (0x1003_00, (0x1003_00, Number 0) ∷ (0x1003_01, Blank) ∷ (0x1003_02, Blank) ∷ (0x1003_03, Blank) ∷ (0x1003_04, Blank) ∷ []) ∷
-    -- read 1
-    (0x1010_01, []) ∷
-    (0x1011_01, []) ∷
-    -- 6200-0: 1800-5 under a second index
-    (0x1800_05, (0x1800_05, Number v) ∷ (0x6200_00, Number v) ∷ []) ∷
-    (0x6200_00, (0x1800_05, Number v) ∷ (0x6200_00, Number v) ∷ []) ∷
-    -- Any accepted write of 6000h, 6002h or 6005h, also of an equal value, sets 6003h and the offset to 0;
-    -- of 6000h also T, to 1,000,000 with scaling and 1,048,576 without.
-    -- 6500-0: the value of entry 6000-0, plus bit 15 when Operational
-    (0x6000_00, (0x6000_00, Number v) ∷ (0x6500_00, Number (v + cond o 0x8000 0)) ∷ (0x6002_00, Number (rangeFor v)) ∷ rescaled d v (rangeFor v) (p .step)) ∷
-    (0x6002_00, (0x6002_00, Number v) ∷ rescaled d (p .operating) v (p .step)) ∷
-    (0x6005_01, (0x6005_01, Number v) ∷ rescaled d (p .operating) (p .range) v) ∷
-    -- Accepted 6003h = p: offset becomes p − d at the present sample, so the position reads p.
-    (0x6003_00, (0x6003_00, Number v) ∷ (0x6509_00, Number (twos (pos v -ℤ pos (directed p (d .reading .raw))))) ∷ (0x6004_00, Number v) ∷ []) ∷
-    []
-
--- The effects of a write of v to the entry of key k; where none is named, that entry reads v.
-abbrev pub effects : Device → Bool → ℕ → ℕ → List (ℕ × Shown)
-effects d o k v = given (named d o v) k ((k, Number v) ∷ [])
-
--- read anew where it is named, and else as before
-abbrev pub anew : List (ℕ × Shown) → ℕ → Option Shown → Option Shown
-anew es k none = none
-anew es k (some s) = some (given es k s)
-
--- "save" copies the settings (.. plus the offset) to the saved set. "load" makes the saved set factory.
-abbrev pub savedBy : Device → ℕ → Settings
-savedBy d k = given ((0x1010_01, d .settings) ∷ (0x1011_01, factory (d .node)) ∷ []) k (d .saved)
-
--- 1010-1, 1011-1: read 1
-abbrev pub readBack : ℕ → ℕ → ℕ
-readBack k v = given ((0x1010_01, 1) ∷ (0x1011_01, 1) ∷ []) k v
-
 -- A write of v to the entry of key k switches a PDO on: bit 31 of sub 1 goes from 1 to 0; or off.
-abbrev pub switchesOn : Core → ℕ → ℕ → Which → Bool
+abbrev pub switchesOn : Core → ℕ → ℕ → PdoNumber → Bool
 switchesOn c k v w = eqb k (identifierKey w) && (not (on (pdo (communication c) w .identifier)) && on v)
 
-abbrev pub switchesOff : ℕ → ℕ → Which → Bool
+abbrev pub switchesOff : ℕ → ℕ → PdoNumber → Bool
 switchesOff k v w = eqb k (identifierKey w) && not (on v)
 
 -- What is counted: the heartbeat's ticks, a PDO's ticks, its SYNCs.
 pub data Counted : Type 0 where
   beats : Counted
-  events : Which → Counted
-  syncs : Which → Counted
+  events : PdoNumber → Counted
+  syncs : PdoNumber → Counted
 
 abbrev pub count : Timers → Counted → ℕ
 count t beats = t .heartbeat
@@ -151,7 +91,8 @@ pub record OnlyReplied (f : Received) (h a : Head) : Type 0 where
 pub record Effects (f : Received) (k v : ℕ) (h a : Head) : Type 0 where
   -- the entries named read anew, every other one as before, and no entry comes or goes
   pub entries : (i j : ℕ) → readsIn a i j ≡ anew (effects (h .core .device) (isIn operational (h .core)) k v) (keyOf i j) (readsIn h i j)
-  pub others : (i j : ℕ) → has (keyOf i j) (map (λ e. e .0) (effects (h .core .device) (isIn operational (h .core)) k v)) ≡ false → readsIn a i j ≡ readsIn h i j
+  pub others : (i j : ℕ) → has (keyOf i j) (map (λ e. e .0) (effects (h .core .device) (isIn operational (h .core)) k v)) ≡ false
+      → readsIn a i j ≡ readsIn h i j
   -- the entry that the request names reads what was written
   pub own : readsIn a (indexOf (f .bytes)) (subOf (f .bytes)) ≡ some (Number (readBack k v))
   pub saved : a .core .device .saved ≡ savedBy (h .core .device) k
@@ -180,30 +121,3 @@ pub record Served (h : Head) (f : Received) : Type 0 where
 
 abbrev pub ServedRightly : Type 0
 ServedRightly = (h : Head) → Reachable h → (f : Received) → Requests h f → Served h f
-
--- Node 1 by calls from power-up: Pre-operational at the raw position 100, both PDOs switched off, scaling on.
-abbrev pub ready : List Call
-ready =
-    slot ∷ sample (Raw 100) ∷
-    writes (bytes 0x23 0x00 0x18 0x01 0x81 0x01 0x00 0x80) ++
-    writes (bytes 0x23 0x01 0x18 0x01 0x81 0x02 0x00 0x80) ++
-    writes (bytes 0x2B 0x00 0x60 0x00 0x04 0x00 0 0)
-
--- a write of v to the entry of key k, of the entry's length
-abbrev pub writing : ℕ × ℕ → Received
-writing w = toNode1 (0x22 ∷ lowFirst 2 (w .0 / 256) ++ w .0 % 256 ∷ lowFirst 4 (w .1))
-
-pub record Met (h : Head) : Type 0 where
-  pub reachable : Reachable h
-  pub requests : (b : List ℕ) → Requests h (toNode1 b)
-  -- the writes are those of the table's rw entries, in its order,
-  pub each : takeAll (h .core .device) table allWrites ≡ true
-  -- and each is accepted
-  pub accepted : map (λ w. dueTo h (writing w)) allWrites ≡ map (λ w. confirmation (w .0) (w .1)) allWrites
-  pub aborted : dueTo h (toNode1 (bytes 0x2F 0x17 0x10 0x00 0x88 0x13 0 0)) ≡ abort 0x06070013
-  pub read : dueTo h (toNode1 (bytes 0x40 0x01 0x65 0x00 0 0 0 0)) ≡ value 4 5000
-  pub client-aborts : dueTo h (toNode1 (bytes 0x80 0x01 0x65 0x00 0 0 0 0)) ≡ service.none
-
--- `ServedRightly` speaks of every rw entry, of an abort, of a value and of none.
-abbrev pub MetWhenReady : Type 0
-MetWhenReady = Met (after node1 ready)

@@ -1,4 +1,5 @@
--- Demand 3, first sentence, and what a slot answers: of every head that comes from power-up, and every list of calls. 01's chapter "The waiting line".
+-- Demand 3, first sentence, and what a slot answers: of every head that comes from
+-- power-up, and every list of calls. 01's chapter "The waiting line".
 use Prim.Native.Nat.{ℕ, _+_, _<_, _≤_}
 use mathlib.Core.Path.{_≡_}
 use mathlib.Core.Logic.{_⊎_, _↔_}
@@ -10,7 +11,7 @@ use Rattle.waiting.specs.Places.{waiting}
 use Rattle.waiting.specs.Laws.{Among}
 use Rattle.parts.specs.declared.Head.{Head}
 use Rattle.promises.specs.States.{isInitialising, node}
-use Rattle.promises.specs.WaitingLine.{may, Kind, number, frame, bootUpFrame, frameOf}
+use Rattle.promises.specs.WaitingLine.{mayStay, Kind, number, frame, bootUpFrame, frameOf}
 use Rattle.promises.specs.Calls.{Call, slot, step, slotted, noFrame}
 use Rattle.promises.specs.Valid.{waits}
 use Rattle.promises.specs.Histories.{after, slots, Reachable}
@@ -28,8 +29,8 @@ abbrev pub WaitsThrough : Head → List Call → Kind → Type 0
 WaitsThrough h [] k = waits h k ≡ true
 WaitsThrough h (c ∷ cs) k = (waits h k ≡ true) × WaitsThrough (step h c) cs k
 
--- One of the calls cs, with fewer than b slots before it, sends k or is a withdrawal of k; k waits until then, so that it is the same frame that
--- leaves, and no more after it.
+-- One of the calls cs, with fewer than b slots before it, sends k or is a withdrawal of k; k
+-- waits until then, so that it is the same frame that leaves, and no more after it.
 pub record LeavesBy (b : ℕ) (h : Head) (cs : List Call) (k : Kind) : Type 0 where
   pub before : List Call
   pub call : Call
@@ -67,16 +68,19 @@ pub record FiveSlots : Type 0 where
   -- (Of every head in which k waits, whenever it began: so of the head after the call by which it begins to wait.)
   pub by-the-fifth : (h : Head) → Reachable h → (cs : List Call) (k : Kind) → waits h k ≡ true → 5 ≤ slots cs → LeavesBy 5 h cs k
   -- Withdrawals, and no others: what waited and no longer waits was sent, or one of the list took it.
-  pub only-so : (h : Head) → Reachable h → (c : Call) (k : Kind) → waits h k ≡ true → waits (step h c) k ≡ false → Sends h c k ⊎ Withdrawal h c k
+  pub only-so : (h : Head) → Reachable h → (c : Call) (k : Kind) → waits h k ≡ true → waits (step h c) k ≡ false
+      → Sends h c k ⊎ Withdrawal h c k
   -- What one of the list takes no longer waits, nor does it join again in the same call; and so what is sent.
   pub withdrawn : (h : Head) → Reachable h → (c : Call) (k : Kind) → Withdrawal h c k → waits (step h c) k ≡ false
   pub sent : (h : Head) → Reachable h → (c : Call) (k : Kind) → Sends h c k → waits (step h c) k ≡ false
   -- Five kinds can wait: ..; each at most once; and each only under 01's condition for it.
   pub once : (h : Head) → Reachable h → Kinds places (waiting (h .line))
-  pub only-while : (h : Head) → Reachable h → (k : Kind) → waits h k ≡ true → may (h .core) k ≡ true
+  pub only-while : (h : Head) → Reachable h → (k : Kind) → waits h k ≡ true → mayStay (h .core) k ≡ true
   pub lines-up : (h : Head) → Reachable h → (c : Call) → Lined h c
   -- In Initialising .. only the boot-up frame .. waits: until the next slot, whatever is called before it, and that slot answers it.
-  pub boots : (h : Head) → Reachable h → isInitialising (h .core) ≡ true → (cs : List Call) → slots cs ≡ 0 → BootUpWaits (node (h .core)) (after h cs)
+  pub boots : (h : Head) → Reachable h → isInitialising (h .core) ≡ true → (cs : List Call) → slots cs ≡ 0
+      → BootUpWaits (node (h .core)) (after h cs)
   pub answers : (h : Head) → Reachable h → Answered h (slotted h .waited) (slotted h .frame)
   -- none exactly if none waits: neither the boot-up frame nor a kind
-  pub none-exactly : (h : Head) → Reachable h → (slotted h .waited ≡ false) ↔ ((isInitialising (h .core) ≡ false) × ((k : Kind) → waits h k ≡ false))
+  pub none-exactly : (h : Head) → Reachable h
+      → (slotted h .waited ≡ false) ↔ ((isInitialising (h .core) ≡ false) × ((k : Kind) → waits h k ≡ false))

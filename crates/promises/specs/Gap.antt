@@ -1,5 +1,6 @@
--- "A gap has to arrive as a gap": what is told of a missing reading, and that no position frame leaves meanwhile. Demand 3's second and third sentence,
--- and the emergency of 01's chapter "The waiting line", over every list of calls. Frames are known by identifier, length and bytes.
+-- "A gap has to arrive as a gap": what is told of a missing reading, and that no position frame leaves
+-- meanwhile. Demand 3's second and third sentence, and the emergency of 01's chapter "The waiting
+-- line", over every list of calls. Frames are known by identifier, length and bytes.
 use Prim.Native.Nat.{ℕ, _+_, _-_, _*_, _<_, _≤_}
 use lib.Dec.{eqb, leb}
 use lib.ListN.{getD}
@@ -108,8 +109,8 @@ resets b = eqb b 0x81 || eqb b 0x82
 abbrev pub stopsOrResets : ℕ → Bool
 stopsOrResets b = eqb b 0x02 || resets b
 
--- The ticks that an inhibit time has to run after a call; t before it. Sending the emergency starts it, from 1015h; each tick it has one less to run;
--- a reset ends it; writing 1015h doesn't alter a running one, nor does any other call.
+-- The ticks that an inhibit time has to run after a call; t before it. Sending the emergency starts it, from 1015h; each tick
+-- it has one less to run; a reset ends it; writing 1015h doesn't alter a running one, nor does any other call.
 abbrev pub leftBy : ℕ → Head → Call → ℕ → ℕ
 leftBy n h (receive f) t = cond (isCommand n resets (receive f)) 0 t
 leftBy n h tick t = t - 1
@@ -138,10 +139,11 @@ pub record Unrelieved (n : ℕ) (h : Head) (cs : List Call) : Type 0 where
 pub record Gap : Type 0 where
   -- Power-up takes a node number N; no call alters it.
   pub same-node : (p : PowerUp) (cs : List Call) → node (after (powered p) cs .core) ≡ nodeOf p
-  -- Emergency: waits exactly while the state is Pre-operational or Operational, bit 31 of 1014h is 0, no inhibit time runs, and the present reading
-  -- (good or missing) differs from the one last announced.
+  -- Emergency: waits exactly while the state is Pre-operational or Operational, bit 31 of 1014h is 0, no
+  -- inhibit time runs, and the present reading (good or missing) differs from the one last announced.
   pub waits-exactly : (p : PowerUp) (cs : List Call) → let h = after (powered p) cs in let c = h .core in
-      waits h emergency ≡ ((isIn preOperational c || isIn operational c) && on (communication c .emergency) && eqb (c .timers .inhibit) 0 && not (Bool·beq (good c) (c .announced)))
+      waits h emergency ≡ ((isIn preOperational c || isIn operational c) && on (communication c .emergency) && eqb (c .timers .inhibit) 0
+      && not (Bool·beq (good c) (c .announced)))
   -- .. no inhibit time runs: what is left of it, since the last emergency frame
   pub inhibit-left : (p : PowerUp) (cs : List Call) → after (powered p) cs .core .timers .inhibit ≡ left (nodeOf p) (powered p) cs 0
   -- for 1015h = v .. none if v = 0, else v/10 rounded up, plus 1, ticks: t is the least with v ≤ 10 t
@@ -153,26 +155,28 @@ pub record Gap : Type 0 where
   -- Both [resets] enter Initialising, .. end any inhibit time and forget what was announced ("good" counts as announced).
   pub forgotten : (p : PowerUp) (cs : List Call) → let h = after (powered p) cs in
       isInitialising (h .core) ≡ true → (h .core .announced ≡ true) × (h .core .timers .inhibit ≡ 0)
-  -- Of the frames that can be sent each test finds its own, and no other: the heartbeat has the boot-up frame's identifier, but not its byte, and while a
-  -- PDO is on its identifier is in 181h..57Fh.
-  pub known : (p : PowerUp) (cs : List Call) (k : Kind) → let h = after (powered p) cs in waits h k ≡ true → Known (nodeOf p) (frameOf (h .core) k) false (alerts k) (showsPosition k)
+  -- Of the frames that can be sent each test finds its own, and no other: the heartbeat has the boot-up
+  -- frame's identifier, but not its byte, and while a PDO is on its identifier is in 181h..57Fh.
+  pub known : (p : PowerUp) (cs : List Call) (k : Kind) → let h = after (powered p) cs in waits h k ≡ true
+      → Known (nodeOf p) (frameOf (h .core) k) false (alerts k) (showsPosition k)
   pub known-boot-up : (p : PowerUp) (cs : List Call) → Known (nodeOf p) (bootUpFrame (after (powered p) cs .core)) true false false
   -- From the missing sample to the next good one no position frame leaves at all.
   pub no-position : (p : PowerUp) (before cs : List Call) → among isGoodSample cs ≡ false
       → among isPosition (sent (after (powered p) before) (sample Missing ∷ cs)) ≡ false
   -- Nor from power-up to the first good sample: it starts with the reading missing.
   pub no-position-at-first : (p : PowerUp) (cs : List Call) → among isGoodSample cs ≡ false → among isPosition (sent (powered p) cs) ≡ false
-  -- If a reading goes missing in Pre-operational or Operational and stays missing, with no inhibit time running at that sample, and with emergency messages
-  -- on and no stop or reset through the next five slots, then by the fifth of them the last emergency frame sent since boot-up says "missing".
-  -- (The calls that end with the fifth slot are one such list; it stays so for longer ones. The reading before may be good or missing.)
+  -- If a reading goes missing in Pre-operational or Operational and stays missing, with no inhibit time running at
+  -- that sample, and with emergency messages on and no stop or reset through the next five slots, then by the fifth
+  -- of them the last emergency frame sent since boot-up says "missing". (The calls that end with the fifth slot are
+  -- one such list; it stays so for longer ones. The reading before may be good or missing.)
   pub missing-is-told : (p : PowerUp) (before cs : List Call) → let h = after (powered p) before in
       isLive (h .core) ≡ true
       → h .core .timers .inhibit ≡ 0
       → Unrelieved (nodeOf p) (step h (sample Missing)) cs
       → 5 ≤ slots cs
       → lastEmergency (nodeOf p) (sent (powered p) (before ++ sample Missing ∷ cs)) ≡ some (saysMissing (nodeOf p))
-  -- So from each moment of a gap at which no inhibit time runs, not only from its sample: from the boot-up of a head without a reading, from the end of
-  -- an inhibit time.
+  -- So from each moment of a gap at which no inhibit time runs, not only from its sample: from
+  -- the boot-up of a head without a reading, from the end of an inhibit time.
   pub gap-is-told : (p : PowerUp) (before cs : List Call) → let h = after (powered p) before in
       isLive (h .core) ≡ true
       → good (h .core) ≡ false

@@ -24,7 +24,3 @@ pub mod Demand1
 pub mod Starts
 pub mod Demand2
 pub mod Demand3
-pub mod FullLine
-pub mod Busy
-pub mod Runs
-pub mod Joining

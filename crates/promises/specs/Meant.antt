@@ -1,4 +1,5 @@
--- Which frames are meant for the head, and which are not, in the words of 01's chapters "States", "The waiting line" (SYNC) and "Service requests".
+-- Which frames are meant for the head, and which are not, in the words of 01's
+-- chapters "States", "The waiting line" (SYNC) and "Service requests".
 use Prim.Native.Nat.{ℕ, _+_, _<_, _≤_}
 use mathlib.Core.Path.{_≡_}
 use mathlib.Core.Bool.{true, false, _||_}
@@ -7,7 +8,8 @@ use Rattle.can.specs.Frame.{refusalOf}
 use Rattle.sdo.specs.Request.{aborting}
 use Rattle.sdo.specs.Service.{Due, confirmation, due}
 use Rattle.parts.specs.declared.Head.{Head}
-use Rattle.promises.specs.States.{Goal, operational, isIn, isInitialising, isLive, node, Reset, Command, noCommand, toEnter, toReset, command, byteOf, commandOf}
+use Rattle.promises.specs.States.{CommandedState, operational, isIn, isInitialising, isLive, node, Reset}
+use Rattle.promises.specs.States.{Command, noCommand, toEnter, toReset, command, byteOf, commandOf}
 use Rattle.promises.specs.WaitingLine.{sdoReply}
 use Rattle.promises.specs.Valid.{waits}
 
@@ -39,7 +41,7 @@ pub record Synchronises (h : Head) (f : Received) : Type 0 where
 
 -- The frames that are meant for the head: commands that name another state, resets, SYNC, and service requests that get a reply.
 pub data MeantFor (h : Head) (f : Received) : Type 0 where
-  to-enter : (g : Goal) → Commands h f (toEnter g) → isIn g (h .core) ≡ false → MeantFor h f
+  to-enter : (g : CommandedState) → Commands h f (toEnter g) → isIn g (h .core) ≡ false → MeantFor h f
   to-reset : (r : Reset) → Commands h f (toReset r) → MeantFor h f
   to-synchronise : Synchronises h f → MeantFor h f
   to-serve : Requests h f → aborting (f .bytes) ≡ false → MeantFor h f
@@ -59,7 +61,7 @@ pub data NotMeant (h : Head) (f : Received) : Type 0 where
   -- others have no effect,
   other-command : f .identifier ≡ 0x000 → command (byteOf f 0) ≡ noCommand → NotMeant h f
   -- nor does a command naming the present state
-  state-held : (g : Goal) → f .identifier ≡ 0x000 → command (byteOf f 0) ≡ toEnter g → isIn g (h .core) ≡ true → NotMeant h f
+  state-held : (g : CommandedState) → f .identifier ≡ 0x000 → command (byteOf f 0) ≡ toEnter g → isIn g (h .core) ≡ true → NotMeant h f
   -- SYNC (080h, data, length 0 or 1, Operational only)
   sync-length : f .identifier ≡ 0x080 → 1 < f .length → NotMeant h f
   sync-state : f .identifier ≡ 0x080 → isIn operational (h .core) ≡ false → NotMeant h f

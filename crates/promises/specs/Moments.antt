@@ -1,5 +1,5 @@
--- When a kind begins to wait: 01's moments, of every list of calls from power-up. Ticks and SYNCs are counted by the calls, from the call that 01 counts
--- them from; the head's own timers are not read. Chapter "The waiting line".
+-- When a kind begins to wait: 01's moments, of every list of calls from power-up. Ticks and SYNCs are counted by the
+-- calls, from the call that 01 counts them from; the head's own timers are not read. Chapter "The waiting line".
 use Prim.Native.Nat.{ℕ, suc, _%_, _<_, _≤_}
 use lib.Dec.{eqb, leb}
 use mathlib.Core.Path.{_≡_}
@@ -11,7 +11,8 @@ use Rattle.entries.specs.declared.Pdo.{Pdo}
 use Rattle.dictionary.specs.Accepted.{on}
 use Rattle.sdo.specs.Request.{aborting}
 use Rattle.parts.specs.declared.Head.{Head}
-use Rattle.promises.specs.States.{operational, stopped, preOperational, isIn, isInitialising, isLive, node, communication, good, Which, one, two, pdo, Command, noCommand, toEnter, toReset, commandOf}
+use Rattle.promises.specs.States.{operational, stopped, preOperational, isIn, isInitialising, isLive, node, communication}
+use Rattle.promises.specs.States.{good, PdoNumber, one, two, pdo, Command, noCommand, toEnter, toReset, commandOf}
 use Rattle.promises.specs.WaitingLine.{Kind, emergency, sdoReply, heartbeat, tpdo}
 use Rattle.promises.specs.Calls.{Call, receive, tick, sample, slot, isSlot, step}
 use Rattle.promises.specs.Valid.{waits}
@@ -79,21 +80,21 @@ abbrev pub beatCounts : Head → Call → Bool
 beatCounts h c = isTick c && not (isInitialising (h .core))
 
 -- Types 254 and 255: .. counted from entry, from switching on (bit 31 of sub 1 goes from 1 to 0), or from a write to sub 5.
-abbrev pub pdoOf : Head → Which → Pdo
+abbrev pub pdoOf : Head → PdoNumber → Pdo
 pdoOf h w = pdo (communication (h .core)) w
 
-abbrev pub isSwitch : Which → ℕ → ℕ → Bool
+abbrev pub isSwitch : PdoNumber → ℕ → ℕ → Bool
 isSwitch w k v = eqb k (identifierKey w) && on v
 
-abbrev pub switchesOn : Which → Head → Call → Bool
+abbrev pub switchesOn : PdoNumber → Head → Call → Bool
 switchesOn w h c = writes (isSwitch w) h c && not (on (pdoOf h w .identifier))
 
 -- 1800-5, and 6200-0: 1800-5 under a second index; 1801-5
-abbrev pub isSub5 : Which → ℕ → ℕ → Bool
+abbrev pub isSub5 : PdoNumber → ℕ → ℕ → Bool
 isSub5 one k v = eqb k 0x1800_05 || eqb k 0x6200_00
 isSub5 two k v = eqb k 0x1801_05
 
-abbrev pub ticksAnew : Which → Head → Call → Bool
+abbrev pub ticksAnew : PdoNumber → Head → Call → Bool
 ticksAnew w h c = entersOperational h c || switchesOn w h c || writes (isSub5 w) h c
 
 -- Only when Operational .. may it join: its ticks count in Operational only.
@@ -101,14 +102,14 @@ abbrev pub tickCounts : Head → Call → Bool
 tickCounts h c = isTick c && isIn operational (h .core)
 
 -- Types 1..240: .. counted from entry or from switching on.
-abbrev pub syncsAnew : Which → Head → Call → Bool
+abbrev pub syncsAnew : PdoNumber → Head → Call → Bool
 syncsAnew w h c = entersOperational h c || switchesOn w h c
 
 -- What has been counted: for the heartbeat, and for each PDO.
 pub record Counts : Type 0 where
   pub beats : ℕ
-  pub ticks : Which → ℕ
-  pub syncs : Which → ℕ
+  pub ticks : PdoNumber → ℕ
+  pub syncs : PdoNumber → ℕ
 
 abbrev pub countsAfter : PowerUp → List Call → Counts
 countsAfter p cs =
@@ -123,8 +124,8 @@ pub record EachOf (n count : ℕ) : Type 0 where
   pub some : 0 < n
   pub turn : suc count % n ≡ 0
 
--- Emergency: waits exactly while the state is Pre-operational or Operational, bit 31 of 1014h is 0, no inhibit time runs, and the present reading
--- (good or missing) differs from the one last announced.
+-- Emergency: waits exactly while the state is Pre-operational or Operational, bit 31 of 1014h is 0, no
+-- inhibit time runs, and the present reading (good or missing) differs from the one last announced.
 pub record Alerting (h : Head) : Type 0 where
   pub live : isLive (h .core) ≡ true
   pub is-on : on (communication (h .core) .emergency) ≡ true
@@ -132,7 +133,7 @@ pub record Alerting (h : Head) : Type 0 where
   pub differs : Bool·beq (good (h .core)) (h .core .announced) ≡ false
 
 -- TPDO: .. switched on (bit 31 of sub 1 is 0) and the reading is good
-pub record Ready (h : Head) (w : Which) : Type 0 where
+pub record Ready (h : Head) (w : PdoNumber) : Type 0 where
   pub is-on : on (pdoOf h w .identifier) ≡ true
   pub is-good : good (h .core) ≡ true
 
@@ -152,19 +153,23 @@ pub data Begins (h : Head) (n : Counts) : Call → Kind → Type 0 where
   -- 1017h = H ms; if H > 0 it joins every H ticks
   beats : isInitialising (h .core) ≡ false → EachOf (communication (h .core) .heartbeat) (n .beats) → Begins h n tick heartbeat
   -- Types 254 and 255: on entering Operational,
-  enters : {f : Received} {w : Which} → Commands h f (toEnter operational) → isIn operational (h .core) ≡ false → Ready h w → OnEvents (pdoOf h w)
+  enters : {f : Received} {w : PdoNumber} → Commands h f (toEnter operational) → isIn operational (h .core) ≡ false → Ready h w
+      → OnEvents (pdoOf h w)
       → Begins h n (receive f) (tpdo w)
   -- and every E ticks (sub 5 = E > 0)
-  elapses : {w : Which} → isIn operational (h .core) ≡ true → Ready h w → OnEvents (pdoOf h w) → EachOf (pdoOf h w .event) (n .ticks w) → Begins h n tick (tpdo w)
+  elapses : {w : PdoNumber} → isIn operational (h .core) ≡ true → Ready h w → OnEvents (pdoOf h w)
+      → EachOf (pdoOf h w .event) (n .ticks w) → Begins h n tick (tpdo w)
   -- Types 1..240: at each n-th SYNC
-  syncs : {f : Received} {w : Which} → Synchronises h f → Ready h w → OnSyncs (pdoOf h w) → EachOf (pdoOf h w .transmission) (n .syncs w)
+  syncs : {f : Received} {w : PdoNumber} → Synchronises h f → Ready h w → OnSyncs (pdoOf h w)
+      → EachOf (pdoOf h w .transmission) (n .syncs w)
       → Begins h n (receive f) (tpdo w)
 
 pub record Moments (p : PowerUp) (cs : List Call) : Type 0 where
   -- What joins waits after the call,
   pub joins : let h = after (powered p) cs in (c : Call) (k : Kind) → Begins h (countsAfter p cs) c k → waits (step h c) k ≡ true
   -- and nothing else begins to wait.
-  pub only-then : let h = after (powered p) cs in (c : Call) (k : Kind) → waits h k ≡ false → waits (step h c) k ≡ true → Begins h (countsAfter p cs) c k
+  pub only-then : let h = after (powered p) cs in (c : Call) (k : Kind) → waits h k ≡ false → waits (step h c) k ≡ true
+      → Begins h (countsAfter p cs) c k
   -- The tests find an accepted write, the command that enters Operational, and a SYNC.
   pub written : let h = after (powered p) cs in (f : Received) (t : ℕ → ℕ → Bool)
       → (writes t h (receive f) ≡ true) ↔ ((k : ℕ) × (v : ℕ) × (t k v ≡ true) × Writes h f k v)

@@ -5,7 +5,7 @@ use mathlib.Core.Bool.{true}
 use Rattle.can.specs.declared.Received.{Received}
 use Rattle.parts.specs.declared.Head.{Head}
 use Rattle.parts.specs.declared.Nmt.{Nmt}
-use Rattle.promises.specs.States.{Goal, preOperational, state, initialising, isInitialising, Reset, toEnter, toReset}
+use Rattle.promises.specs.States.{CommandedState, preOperational, state, initialising, isInitialising, Reset, toEnter, toReset}
 use Rattle.promises.specs.Calls.{Call, receive, slot, step, ticked}
 use Rattle.promises.specs.Meant.{Commands}
 use Rattle.promises.specs.Histories.{PowerUp, powered, Reachable}
@@ -13,7 +13,7 @@ use Rattle.promises.specs.Histories.{PowerUp, powered, Reachable}
 -- The calls that enter a state, and the state.
 pub data Enters (h : Head) : Call → Nmt → Type 0 where
   -- 01h Operational, 02h Stopped, 80h Pre-operational
-  by-command : {f : Received} (g : Goal) → Commands h f (toEnter g) → Enters h (receive f) (state g)
+  by-command : {f : Received} (g : CommandedState) → Commands h f (toEnter g) → Enters h (receive f) (state g)
   -- 81h reset node, 82h reset communication: both enter Initialising
   by-reset : {f : Received} {r : Reset} → Commands h f (toReset r) → Enters h (receive f) initialising
   -- The slot that sends the boot-up frame enters Pre-operational.

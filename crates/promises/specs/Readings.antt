@@ -1,5 +1,5 @@
--- What 6004h, 1001h, 6503h and the position frames tell of the samples, over any sequence of calls: demand 2's "a position is the exact result of
--- scaling, direction, preset and range". 01's chapters "Entries" and "Position".
+-- What 6004h, 1001h, 6503h and the position frames tell of the samples, over any sequence of calls: demand 2's "a
+-- position is the exact result of scaling, direction, preset and range". 01's chapters "Entries" and "Position".
 use Prim.Native.Nat.{ℕ}
 use lib.Dec.{eqb}
 use mathlib.Core.Path.{_≡_}
@@ -26,7 +26,7 @@ use Rattle.cases.specs.Padded.{pad}
 use Rattle.parts.specs.declared.Head.{Head}
 use Rattle.parts.specs.declared.Sensor.{Sensor}
 use Rattle.parts.specs.declared.Sensor.the-variants.{Missing, Raw}
-use Rattle.promises.specs.States.{operational, isIn, communication, missingReading, Which, pdo, ofNode, toReset}
+use Rattle.promises.specs.States.{operational, isIn, communication, missingReading, PdoNumber, pdo, ofNode, toReset}
 use Rattle.promises.specs.Calls.{Call, receive, tick, sample, slot, badSample, step, received, slotted}
 use Rattle.promises.specs.Meant.{Commands, dueTo, Writes}
 use Rattle.promises.specs.Histories.{after}
@@ -95,7 +95,7 @@ Unmoved h (c ∷ cs) = (Moves h c → ⊥) × Unmoved (step h c) cs
 
 -- TPDO: 4 bytes, the position, low byte first: the one that 6004h reads, and nothing of it is lost.
 pub record Carries (h : Head) (f : Frame) : Type 0 where
-  pub which : Which
+  pub which : PdoNumber
   pub identifier : f .identifier ≡ pdo (communication (h .core)) which .identifier
   pub length : f .length ≡ 4
   pub position : ℕ

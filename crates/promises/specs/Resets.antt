@@ -1,9 +1,10 @@
--- Save, load and the two resets: which settings each leaves, and with what a head begins after a reset. 01's chapters "States" and "Entries".
+-- Save, load and the two resets: which settings each leaves, and with what a
+-- head begins after a reset. 01's chapters "States" and "Entries".
 use Prim.Native.Nat.{ℕ}
 use lib.Dec.{eqb, ltb}
 use mathlib.Core.Path.{_≡_}
 use mathlib.Core.Bool.{Bool, true, false, not, _&&_, _||_, cond}
-use mathlib.Core.List.{List, [], _∷_, _++_}
+use mathlib.Core.List.{List, [], _∷_}
 use mathlib.Core.Logic.{_⊎_}
 use mathlib.Core.Option.{some}
 use Rattle.can.specs.declared.Received.{Received}
@@ -13,21 +14,19 @@ use Rattle.entries.specs.Settings.{factory}
 use Rattle.dictionary.specs.declared.read.Shown.the-variants.{Number}
 use Rattle.dictionary.specs.Accepted.{on}
 use Rattle.dictionary.specs.Reads.{reads}
-use Rattle.dictionary.specs.Worked.{save, load}
+use Rattle.dictionary.specs.Effects.{readBack}
 use Rattle.sdo.specs.Request.{indexOf, subOf}
 use Rattle.sdo.specs.Worked.{bytes}
 use Rattle.waiting.specs.Line as line
 use Rattle.waiting.specs.Places.{waiting}
 use Rattle.parts.specs.declared.Core.{Core}
 use Rattle.parts.specs.declared.Head.{Head}
-use Rattle.promises.specs.States.{preOperational, state, isInitialising, node, communication, good, atRest, Reset, ofNode, ofCommunication, restored, toReset}
+use Rattle.promises.specs.States.{preOperational, state, isInitialising, node, communication, good}
+use Rattle.promises.specs.States.{atRest, Reset, ofNode, ofCommunication, restored, toReset}
 use Rattle.promises.specs.Acts.{resetTo}
 use Rattle.promises.specs.Calls.{Call, receive, tick, sample, slot, step, received, slotted}
 use Rattle.promises.specs.Meant.{Commands, Writes}
 use Rattle.promises.specs.Histories.{after, Reachable}
-use Rattle.promises.specs.Node1.{node1, writes, toAll}
-use Rattle.promises.specs.Worked.{missing}
-use Rattle.promises.specs.Effects.{readBack, writing}
 use Rattle.promises.specs.Readings.{readsIn}
 
 -- the indices below 2000h; 6200-0 is 1800-5 under a second index
@@ -68,7 +67,8 @@ pub record HasBooted (h a : Head) : Type 0 where
   pub device : a .core .device ≡ h .core .device
   pub announced : a .core .announced ≡ true
   pub timers : a .core .timers ≡ atRest
-  -- Nothing waits; but the emergency does, where bit 31 of 1014h is 0 and the reading is missing: it differs from "good", which counts as announced.
+  -- Nothing waits; but the emergency does, where bit 31 of 1014h is 0 and the
+  -- reading is missing: it differs from "good", which counts as announced.
   pub line : waiting (a .line) ≡ cond (on (communication (h .core) .emergency) && not (good (h .core))) (line.emergency ∷ []) []
 
 -- A call is an accepted write of 1010-1 or 1011-1.
@@ -101,9 +101,11 @@ pub record Resets : Type 0 where
   pub resets : (h : Head) → Reachable h → (f : Received) (r : Reset) → Commands h f (toReset r) → HasReset r h (received h f .head)
   pub boots : (h : Head) → Reachable h → isInitialising (h .core) ≡ true → HasBooted h (slotted h .head)
   -- no call but an accepted write or a reset alters the settings,
-  pub settings-stay : (h : Head) → Reachable h → (cs : List Call) → None Alters h cs → after h cs .core .device .settings ≡ h .core .device .settings
+  pub settings-stay : (h : Head) → Reachable h → (cs : List Call) → None Alters h cs
+      → after h cs .core .device .settings ≡ h .core .device .settings
   -- so that what was written is read, whatever comes then but these; 1003-0 counts on
-  pub reads-on : (h : Head) → Reachable h → (f : Received) (k v : ℕ) → Writes h f k v → (k ≡ 0x1003_00 → ⊥) → (cs : List Call) → None Alters (received h f .head) cs
+  pub reads-on : (h : Head) → Reachable h → (f : Received) (k v : ℕ) → Writes h f k v → (k ≡ 0x1003_00 → ⊥) → (cs : List Call)
+      → None Alters (received h f .head) cs
       → readsIn (after (received h f .head) cs) (indexOf (f .bytes)) (subOf (f .bytes)) ≡ some (Number (readBack k v))
   -- and no call but an accepted write of 1010-1 or 1011-1 the saved set
   pub saved-stays : (h : Head) → Reachable h → (cs : List Call) → None Saves h cs → after h cs .core .device .saved ≡ h .core .device .saved
@@ -111,27 +113,5 @@ pub record Resets : Type 0 where
   pub saves : Restores 0x1010_01 (λ h. h .core .device .settings)
   -- "load" makes the saved set factory; running settings change at the next reset.
   pub loads : Restores 0x1011_01 (λ h. factory (node (h .core)))
-  pub runs-on : (h : Head) → Reachable h → (f : Received) (v : ℕ) → Writes h f 0x1011_01 v → (i j : ℕ) → readsIn (received h f .head) i j ≡ readsIn h i j
-
--- Node 1 by calls from power-up: Pre-operational, 1017h = 1,000.
-abbrev pub beating : List Call
-beating = missing ++ writes (bytes 0x2B 0x17 0x10 0x00 0xE8 0x03 0 0)
-
--- the reply is sent, and then 1017h = 500
-abbrev pub between : List Call
-between = slot ∷ writes (bytes 0x2B 0x17 0x10 0x00 0xF4 0x01 0 0)
-
--- The head h can meet what `Restores` asks: f is an accepted write of v to the entry of key k, and after 81h 1017h reads n.
-pub record Met (h : Head) (f : Received) (k v n : ℕ) : Type 0 where
-  pub reachable : Reachable h
-  pub written : Writes h f k v
-  pub none-saves : None Saves (received h f .head) between
-  pub commands : Commands (after (received h f .head) between) (toAll 0x81) (toReset ofNode)
-  pub reads-again : readsIn (received (after (received h f .head) between) (toAll 0x81) .head) 0x1017 0 ≡ some (Number n)
-
--- "save": 1017h is 1,000 again; "load": it is 0, the factory's
-abbrev pub MetBySave : Type 0
-MetBySave = Met (after node1 beating) (writing (0x1010_01, save)) 0x1010_01 save 1000
-
-abbrev pub MetByLoad : Type 0
-MetByLoad = Met (after node1 beating) (writing (0x1011_01, load)) 0x1011_01 load 0
+  pub runs-on : (h : Head) → Reachable h → (f : Received) (v : ℕ) → Writes h f 0x1011_01 v → (i j : ℕ)
+      → readsIn (received h f .head) i j ≡ readsIn h i j

@@ -16,7 +16,8 @@ use Rattle.sdo.specs.Reply.{carriedOut}
 use Rattle.sdo.specs.Service.{Due, value, confirmation, abort, answer}
 use Rattle.waiting.specs.Places.{waiting}
 use Rattle.parts.specs.declared.Head.{Head}
-use Rattle.promises.specs.States.{operational, stopped, preOperational, isInitialising, isLive, node, Command, noCommand, toEnter, toReset, commandOf}
+use Rattle.promises.specs.States.{operational, stopped, preOperational, isInitialising, isLive}
+use Rattle.promises.specs.States.{node, Command, noCommand, toEnter, toReset, commandOf}
 use Rattle.promises.specs.WaitingLine.{sdoReply, number}
 use Rattle.promises.specs.Calls.{Call, receive, tick, sample, slot, step, received, slotted}
 use Rattle.promises.specs.Valid.{waits}
@@ -27,7 +28,8 @@ use Rattle.promises.specs.Histories.{after, sent, PowerUp, powered}
 abbrev pub replyDue : Head → Received → Served
 replyDue h f = answer (f .bytes) (dueTo h f)
 
--- What is due is the reply that joins: it waits, behind all others. Its bytes are the ones due, and so is what the request did to the device.
+-- What is due is the reply that joins: it waits, behind all others. Its bytes
+-- are the ones due, and so is what the request did to the device.
 pub record Replied (h : Head) (f : Received) (then : Head) : Type 0 where
   pub ahead : List ℕ
   pub joins : waiting (then .line) ≡ ahead ++ number sdoReply ∷ []
@@ -75,7 +77,8 @@ takesReply (toReset r) = true
 abbrev pub withdrawsReply : Head → Received → Bool
 withdrawsReply h f = isHeard h f && eqb (f .identifier) 0x000 && takesReply (commandOf (node (h .core)) f)
 
--- The bytes due to the last request that was answered; none before the first, none once a slot has sent them or a withdrawal has taken them.
+-- The bytes due to the last request that was answered; none before the first,
+-- none once a slot has sent them or a withdrawal has taken them.
 abbrev pub owedBy : Head → Option (List ℕ) → Call → Option (List ℕ)
 owedBy h o (receive f) = firstOf ((isAnswered h f, some (replyDue h f .bytes)) ∷ (withdrawsReply h f, none) ∷ []) o
 owedBy h o tick = o

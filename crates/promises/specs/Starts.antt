@@ -1,5 +1,5 @@
--- What power-up leaves: "It starts in Initialising with factory settings, the saved set equal to them, the reading missing, the error list empty", and what of
--- it no call alters. 01's chapters "States", "Refusal numbers" and "Entries".
+-- What power-up leaves: "It starts in Initialising with factory settings, the saved set equal to them, the reading missing, the
+-- error list empty", and what of it no call alters. 01's chapters "States", "Refusal numbers" and "Entries".
 use Prim.Native.Nat.{ℕ, _+_}
 use mathlib.Core.Path.{_≡_}
 use mathlib.Core.Bool.{cond}
@@ -12,14 +12,14 @@ use Rattle.entries.specs.declared.Identity.{Identity}
 use Rattle.entries.specs.Table.{table, index, sub, width}
 use Rattle.dictionary.specs.declared.read.Shown.{Shown}
 use Rattle.dictionary.specs.declared.read.Shown.the-variants.{Blank, Number}
-use Rattle.promises.specs.States.{Reset, ofNode, restored, toReset}
+use Rattle.promises.specs.States.{Reset, restored, toReset}
 use Rattle.promises.specs.Calls.{Call, slot, step, received}
 use Rattle.promises.specs.Meant.{Commands, Requests, dueTo}
 use Rattle.promises.specs.Histories.{after, PowerUp, powered}
 use Rattle.promises.specs.Readings.{readsIn, dueShown}
-use Rattle.promises.specs.Resets.{Saves, None, beating}
+use Rattle.promises.specs.Resets.{Saves, None}
 use Rattle.promises.specs.Gap.{nodeOf}
-use Rattle.promises.specs.Node1.{node1, dataFrame, toAll}
+use Rattle.promises.specs.Node1.{dataFrame}
 use Rattle.promises.specs.Codes.{All}
 use Rattle.promises.specs.Demand1.{BadNode}
 
@@ -97,7 +97,8 @@ pub record Reads (p : PowerUp) (l : Line) : Type 0 where
 
 pub record Starts : Type 0 where
   -- Each entry of the table stands in the list, in its order, with its bytes.
-  pub all-of-them : (n : ℕ) (i : Identity) → map {B = ℕ × ℕ × ℕ} (λ l. (l .0, l .1, l .2)) (firstReads n i) ≡ map (λ r. (index r, sub r, width r)) table
+  pub all-of-them : (n : ℕ) (i : Identity)
+      → map {B = ℕ × ℕ × ℕ} (λ l. (l .0, l .1, l .2)) (firstReads n i) ≡ map (λ r. (index r, sub r, width r)) table
   -- It starts .. with factory settings, .. the reading missing, the error list empty,
   pub reads : (p : PowerUp) → All (Reads p) (firstLines p)
   -- (such a request is one that is then served)
@@ -105,7 +106,8 @@ pub record Starts : Type 0 where
   -- the saved set equal to them
   pub saved : (p : PowerUp) → powered p .core .device .saved ≡ powered p .core .device .settings
   -- so that a reset restores these until 1010-1 or 1011-1 was written: 81h all of them, 82h those below 2000h
-  pub restores : (p : PowerUp) (cs : List Call) → None Saves (powered p) cs → let h = after (powered p) cs in (f : Received) (r : Reset) → Commands h f (toReset r)
+  pub restores : (p : PowerUp) (cs : List Call) → None Saves (powered p) cs → let h = after (powered p) cs in (f : Received) (r : Reset)
+      → Commands h f (toReset r)
       → received h f .head .core .device .settings ≡ restored r (h .core .device .settings) (powered p .core .device .settings)
   -- Power-up takes .. four identity numbers; no call alters them.
   pub same-identity : (p : PowerUp) (cs : List Call) → after (powered p) cs .core .device .identity ≡ identityOf p
@@ -118,12 +120,3 @@ pub record Starts : Type 0 where
       × (readsIn h 0x1018 2 ≡ some (Number (i .product)))
       × (readsIn h 0x1018 3 ≡ some (Number (i .revision)))
       × (readsIn h 0x1018 4 ≡ some (Number (i .serial)))
-
--- Node 1, Pre-operational, 1017h = 1,000: it is 0 again after 81h.
-pub record StartsMet : Type 0 where
-  pub none-saves : None Saves node1 beating
-  pub reads-written : readsIn (after node1 beating) 0x1017 0 ≡ some (Number 1000)
-  pub commands : Commands (after node1 beating) (toAll 0x81) (toReset ofNode)
-  pub reads-again : readsIn (received (after node1 beating) (toAll 0x81) .head) 0x1017 0 ≡ some (Number 0)
-  -- 128 is refused
-  pub bad-node : BadNode 128

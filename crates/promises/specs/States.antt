@@ -20,28 +20,29 @@ use Rattle.parts.specs.declared.Timers.{Timers}
 use Rattle.parts.specs.declared.Core.{Core}
 use Rattle.parts.specs.declared.Head.{Head}
 
--- Each NMT state is named with its heartbeat code: Stopped 04h, Operational 05h, Pre-operational 7Fh. Initialising sends its 00h as the boot-up frame.
+-- Each NMT state is named with its heartbeat code: Stopped 04h, Operational 05h,
+-- Pre-operational 7Fh. Initialising sends its 00h as the boot-up frame.
 abbrev pub initialisingCode : ℕ
 initialisingCode = 0x00
 
 -- The states that a command enters.
-pub data Goal : Type 0 where
-  operational : Goal
-  stopped : Goal
-  preOperational : Goal
+pub data CommandedState : Type 0 where
+  operational : CommandedState
+  stopped : CommandedState
+  preOperational : CommandedState
 
-abbrev pub code : Goal → ℕ
+abbrev pub code : CommandedState → ℕ
 code operational = 0x05
 code stopped = 0x04
 code preOperational = 0x7F
 
-abbrev pub state : Goal → Nmt
+abbrev pub state : CommandedState → Nmt
 state g = record { code = code g }
 
 abbrev pub initialising : Nmt
 initialising = record { code = initialisingCode }
 
-abbrev pub isIn : Goal → Core → Bool
+abbrev pub isIn : CommandedState → Core → Bool
 isIn g c = eqb (c .nmt .code) (code g)
 
 abbrev pub isInitialising : Core → Bool
@@ -64,15 +65,15 @@ abbrev pub good : Core → Bool
 good c = c .device .reading .good
 
 -- the two PDOs
-pub data Which : Type 0 where
-  one : Which
-  two : Which
+pub data PdoNumber : Type 0 where
+  one : PdoNumber
+  two : PdoNumber
 
-abbrev pub pdo : Communication → Which → Pdo
+abbrev pub pdo : Communication → PdoNumber → Pdo
 pdo s one = s .pdo1
 pdo s two = s .pdo2
 
-abbrev pub clock : Timers → Which → Clock
+abbrev pub clock : Timers → PdoNumber → Clock
 clock t one = t .pdo1
 clock t two = t .pdo2
 
@@ -122,14 +123,15 @@ restored ofCommunication present saved = record { communication = saved .communi
 -- 01h Operational, 02h Stopped, 80h Pre-operational, 81h reset node, 82h reset communication; others have no effect.
 pub data Command : Type 0 where
   noCommand : Command
-  toEnter : Goal → Command
+  toEnter : CommandedState → Command
   toReset : Reset → Command
 
 abbrev pub resetCommand : ℕ → Command
 resetCommand b = firstOf ((eqb b 0x81, toReset ofNode) ∷ (eqb b 0x82, toReset ofCommunication) ∷ []) noCommand
 
 abbrev pub command : ℕ → Command
-command b = firstOf ((eqb b 0x01, toEnter operational) ∷ (eqb b 0x02, toEnter stopped) ∷ (eqb b 0x80, toEnter preOperational) ∷ []) (resetCommand b)
+command b =
+    firstOf ((eqb b 0x01, toEnter operational) ∷ (eqb b 0x02, toEnter stopped) ∷ (eqb b 0x80, toEnter preOperational) ∷ []) (resetCommand b)
 
 abbrev pub byteOf : Received → ℕ → ℕ
 byteOf f i = getD (f .bytes) i 0

@@ -5,6 +5,7 @@ use mathlib.Core.Bool.{Bool, not, _&&_, _||_, cond}
 use Rattle.cases.specs.Tests.{within}
 use Rattle.entries.specs.declared.Pdo.{Pdo}
 use Rattle.entries.specs.declared.Communication.{Communication}
+use Rattle.entries.specs.Keys.{heartbeatKey, cycleKey, eventKeyOf, tpdo1, tpdo2}
 use Rattle.dictionary.specs.Accepted.{on}
 use Rattle.parts.specs.declared.Clock.{Clock}
 use Rattle.parts.specs.declared.Timers.{Timers}
@@ -38,7 +39,8 @@ abbrev pub clockTicked : Pdo → Clock → Clock
 clockTicked p k = record { ticks = counted (p .event) (k .ticks); syncs = k .syncs }
 
 abbrev pub clockSynced : Pdo → Clock → Clock
-clockSynced p k = record { ticks = k .ticks; syncs = cond (on (p .identifier) && synchronous p) (counted (p .transmission) (k .syncs)) (k .syncs) }
+clockSynced p k =
+    record { ticks = k .ticks; syncs = cond (on (p .identifier) && synchronous p) (counted (p .transmission) (k .syncs)) (k .syncs) }
 
 abbrev pub ifRunning : Bool → Pdo → Clock → Clock
 ifRunning runs p k = cond runs (clockTicked p k) k
@@ -79,7 +81,7 @@ abbrev pub timersWritten : ℕ → Communication → Communication → Timers �
 timersWritten k before after t =
     record {
       inhibit = t .inhibit;
-      heartbeat = cond (eqb k 0x1017_00) 0 (t .heartbeat);
-      pdo1 = clockWritten (eqb k 0x1800_05 || eqb k 0x6200_00) (before .pdo1) (after .pdo1) (t .pdo1);
-      pdo2 = clockWritten (eqb k 0x1801_05) (before .pdo2) (after .pdo2) (t .pdo2);
+      heartbeat = cond (eqb k heartbeatKey) 0 (t .heartbeat);
+      pdo1 = clockWritten (eqb k (eventKeyOf tpdo1) || eqb k cycleKey) (before .pdo1) (after .pdo1) (t .pdo1);
+      pdo2 = clockWritten (eqb k (eventKeyOf tpdo2)) (before .pdo2) (after .pdo2) (t .pdo2);
     }

@@ -14,9 +14,10 @@ use Rattle.parts.specs.declared.Clock.{Clock}
 use Rattle.parts.specs.declared.Timers.{Timers}
 use Rattle.parts.specs.declared.Core.{Core}
 use Rattle.parts.specs.declared.Head.{Head}
-use Rattle.promises.specs.States.{operational, stopped, preOperational, isIn, isInitialising, communication, Which, pdo, clock, atRest}
+use Rattle.promises.specs.States.{operational, stopped, preOperational, isIn, isInitialising}
+use Rattle.promises.specs.States.{communication, PdoNumber, pdo, clock, atRest}
 use Rattle.promises.specs.Timers.{inhibitTicks}
-use Rattle.promises.specs.WaitingLine.{Kind, emergency, number, may}
+use Rattle.promises.specs.WaitingLine.{Kind, emergency, number, isAlerting, mayStay}
 
 -- whether a kind waits
 abbrev pub waits : Head → Kind → Bool
@@ -39,7 +40,7 @@ pub record ValidTimers (s : Communication) (t : Timers) : Type 0 where
   -- at most that of 65,535 units
   pub inhibit : t .inhibit ≤ inhibitTicks 0xFFFF
   pub heartbeat : Below (s .heartbeat) (t .heartbeat)
-  pub clocks : (w : Which) → ValidClock (pdo s w) (clock t w)
+  pub clocks : (w : PdoNumber) → ValidClock (pdo s w) (clock t w)
 
 pub record Valid (h : Head) : Type 0 where
   pub device : ValidDevice (h .core .device)
@@ -49,7 +50,7 @@ pub record Valid (h : Head) : Type 0 where
   pub fresh : isInitialising (h .core) ≡ true → (h .core .announced ≡ true) × (h .core .timers ≡ atRest)
   -- each at most once, and empty places behind them
   pub line : Holds places (h .line) (waiting (h .line))
-  -- a kind waits only if it may
-  pub only : (k : Kind) → waits h k ≡ true → may (h .core) k ≡ true
+  -- a kind waits only if it may stay
+  pub only : (k : Kind) → waits h k ≡ true → mayStay (h .core) k ≡ true
   -- the emergency waits exactly while its condition holds
-  pub urgent : may (h .core) emergency ≡ true → waits h emergency ≡ true
+  pub urgent : isAlerting (h .core) ≡ true → waits h emergency ≡ true

@@ -6,13 +6,13 @@ use Rattle.can.specs.declared.Received.{Received}
 use Rattle.dictionary.specs.Accepted.{on}
 use Rattle.parts.specs.declared.Head.{Head}
 use Rattle.parts.specs.declared.Sensor.the-variants.{Missing, Raw}
-use Rattle.promises.specs.States.{Goal, operational, stopped, isIn, Reset, toEnter, toReset, Which, one, two}
+use Rattle.promises.specs.States.{CommandedState, operational, stopped, isIn, Reset, toEnter, toReset, PdoNumber, one, two}
 use Rattle.promises.specs.WaitingLine.{Kind, emergency, heartbeat, tpdo}
 use Rattle.promises.specs.Calls.{Call, receive, sample}
 use Rattle.promises.specs.Meant.{Commands, Writes}
 
 -- 1800-1, 1801-1
-abbrev pub identifierKey : Which → ℕ
+abbrev pub identifierKey : PdoNumber → ℕ
 identifierKey one = 0x1800_01
 identifierKey two = 0x1801_01
 
@@ -22,15 +22,17 @@ pub data Withdrawal (h : Head) : Call → Kind → Type 0 where
   -- entering Stopped takes all but the heartbeat;
   stops : {f : Received} {k : Kind} → Commands h f (toEnter stopped) → (k ≡ heartbeat → ⊥) → Withdrawal h (receive f) k
   -- leaving Operational takes both PDOs; (a command naming the present state leaves none)
-  leaves : {f : Received} {g : Goal} {w : Which} → Commands h f (toEnter g) → isIn operational (h .core) ≡ true → isIn g (h .core) ≡ false → Withdrawal h (receive f) (tpdo w)
+  leaves : {f : Received} {g : CommandedState} {w : PdoNumber} → Commands h f (toEnter g) → isIn operational (h .core) ≡ true
+      → isIn g (h .core) ≡ false → Withdrawal h (receive f) (tpdo w)
   -- a missing sample takes both PDOs;
-  loses : {w : Which} → Withdrawal h (sample Missing) (tpdo w)
+  loses : {w : PdoNumber} → Withdrawal h (sample Missing) (tpdo w)
   -- switching a PDO off takes that PDO;
-  switches-off : {f : Received} {v : ℕ} {w : Which} → Writes h f (identifierKey w) v → on v ≡ false → Withdrawal h (receive f) (tpdo w)
+  switches-off : {f : Received} {v : ℕ} {w : PdoNumber} → Writes h f (identifierKey w) v → on v ≡ false → Withdrawal h (receive f) (tpdo w)
   -- writing 0 to 1017h takes the heartbeat;
   beats-no-more : {f : Received} → Writes h f 0x1017_00 0 → Withdrawal h (receive f) heartbeat
   -- the emergency goes when its condition below ends: Pre-operational and Operational are left as above, bit 31 of 1014h is set,
   silenced : {f : Received} {v : ℕ} → Writes h f 0x1014_00 v → on v ≡ false → Withdrawal h (receive f) emergency
-  -- or the present reading, found or lost, no longer differs from the one last announced. (An inhibit time begins by sending it: no withdrawal.)
+  -- or the present reading, found or lost, no longer differs from the one last
+  -- announced. (An inhibit time begins by sending it: no withdrawal.)
   found : {r : ℕ} → r ≤ 1048575 → h .core .announced ≡ true → Withdrawal h (sample (Raw r)) emergency
   lost : h .core .announced ≡ false → Withdrawal h (sample Missing) emergency

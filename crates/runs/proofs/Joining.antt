@@ -4,8 +4,8 @@ use Rattle.entries.specs.Table.{entries, table, lookup}
 use Rattle.dictionary.specs.Reads.{shownAt}
 use Rattle.dictionary.specs.Writes.{written}
 use Rattle.sdo.specs.Service.{due}
 use Rattle.promises.specs.Acts.{settledTo, act}
-use Rattle.promises.specs.Joining.{Joining}
+use Rattle.runs.specs.Joining.{Joining}
 
 pub joining : Joining
 unfolding entries table lookup shownAt written due act settledTo

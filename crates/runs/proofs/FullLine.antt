@@ -5,11 +5,11 @@ use Rattle.entries.specs.Table.{entries, table, lookup}
 use Rattle.dictionary.specs.Reads.{shownAt}
 use Rattle.dictionary.specs.Writes.{written}
 use Rattle.sdo.specs.Service.{due}
 use Rattle.promises.specs.Acts.{settledTo, act}
 use Rattle.promises.specs.Calls.{tick}
 use Rattle.promises.specs.Node1.{asks}
-use Rattle.promises.specs.FullLine.{begun, full, FullLine}
-use Rattle.promises.proofs.Node1.{reached}
+use Rattle.runs.specs.FullLine.{begun, full, FullLine}
+use Rattle.runs.proofs.Node1.{reached}
 
 pub full-line : FullLine
 unfolding entries table lookup shownAt written due act settledTo

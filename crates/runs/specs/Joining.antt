@@ -1,4 +1,5 @@
--- Runs of node 1 from power-up in which the heartbeat and the PDOs join at their moments: what specs/Moments.antt asks for is met, and what waits then.
+-- Runs of node 1 from power-up in which the heartbeat and the PDOs join at their
+-- moments: what `Moments` of crate promises asks for is met, and what waits then.
 use Prim.Native.Nat.{ℕ}
 use mathlib.Core.Path.{_≡_}
 use mathlib.Core.List.{List, [], _∷_, _++_}
@@ -77,7 +78,8 @@ pub record Joining : Type 0 where
       ((tpdo1 ∷ []) ∷ [] ∷ [] ∷ [] ∷ (tpdo1 ∷ []) ∷ [] ∷ [] ∷ [] ∷ (tpdo1 ∷ []) ∷ [])
   pub enters-again : Leave (good ++ event3 ++ operating) (tick ∷ tick ∷ command 0x80 ∷ tick ∷ command 0x01 ∷ slot ∷ tick ∷ tick ∷ tick ∷ [])
       ([] ∷ [] ∷ [] ∷ [] ∷ (tpdo1 ∷ []) ∷ [] ∷ [] ∷ [] ∷ (tpdo1 ∷ []) ∷ [])
-  pub elapses-anew : Leave (good ++ event3 ++ operating ++ tick ∷ tick ∷ event3Again) (tick ∷ tick ∷ tick ∷ []) ([] ∷ [] ∷ (tpdo1 ∷ []) ∷ [])
+  pub elapses-anew : Leave (good ++ event3 ++ operating ++ tick ∷ tick ∷ event3Again) (tick ∷ tick ∷ tick ∷ [])
+      ([] ∷ [] ∷ (tpdo1 ∷ []) ∷ [])
   -- from switching on anew, by which it does not join, nor while it is off
   pub elapses-switched : Leave (good ++ event3 ++ operating ++ tick ∷ off1) (tick ∷ tick ∷ on1 ++ tick ∷ tick ∷ tick ∷ [])
       ([] ∷ [] ∷ (sdoReply ∷ []) ∷ [] ∷ [] ∷ [] ∷ (tpdo1 ∷ []) ∷ [])
@@ -92,10 +94,12 @@ pub record Joining : Type 0 where
       ([] ∷ (tpdo2 ∷ []) ∷ [] ∷ [] ∷ [] ∷ (tpdo2 ∷ []) ∷ [])
   -- counted from switching on, and from entry: a SYNC before is none of its SYNCs
   pub syncs-anew : Leave (good ++ second ++ operating ++ sync ∷ off2 ++ sync ∷ on2) (sync ∷ sync ∷ []) ([] ∷ (tpdo2 ∷ []) ∷ [])
-  pub syncs-entered : Leave (good ++ second ++ operating ++ sync ∷ command 0x80 ∷ sync ∷ operating) (sync ∷ sync ∷ []) ([] ∷ (tpdo2 ∷ []) ∷ [])
+  pub syncs-entered : Leave (good ++ second ++ operating ++ sync ∷ command 0x80 ∷ sync ∷ operating) (sync ∷ sync ∷ [])
+      ([] ∷ (tpdo2 ∷ []) ∷ [])
   pub counted-syncs : since (syncsAnew two) synchronises node1 (good ++ sync ∷ second ++ operating ++ sync ∷ sync ∷ sync ∷ []) 0 ≡ 3
   -- a request gets its reply, a client's abort none
-  pub replies : Leave good (request (bytes 0x80 0x04 0x60 0x00 0 0 0 0) ∷ request (bytes 0x40 0x04 0x60 0x00 0 0 0 0) ∷ []) ([] ∷ (sdoReply ∷ []) ∷ [])
+  pub replies : Leave good (request (bytes 0x80 0x04 0x60 0x00 0 0 0 0) ∷ request (bytes 0x40 0x04 0x60 0x00 0 0 0 0) ∷ [])
+      ([] ∷ (sdoReply ∷ []) ∷ [])
   -- missing is told by the emergency, and good again; what is found before it is sent needs none
   pub alerts : Leave good (sample Missing ∷ sample (Raw 7) ∷ sample Missing ∷ slot ∷ sample (Raw 7) ∷ [])
       ((emergency ∷ []) ∷ [] ∷ (emergency ∷ []) ∷ [] ∷ (emergency ∷ []) ∷ [])

@@ -1,4 +1,5 @@
--- A busy line on which the reading goes missing, by calls from power-up of node 1: what specs/Gap.antt asks for is met, and what is sent then.
+-- A busy line on which the reading goes missing, by calls from power-up of
+-- node 1: what `Gap` of crate promises asks for is met, and what is sent then.
 use lib.ListN.{replicate}
 use mathlib.Core.Path.{_≡_}
 use mathlib.Core.Bool.{true, false}
@@ -7,15 +8,16 @@ use mathlib.Core.Option.{none, some}
 use Rattle.sdo.specs.Worked.{bytes}
 use Rattle.waiting.specs.Line.{emergency, sdoReply, heartbeat, tpdo1, tpdo2}
 use Rattle.parts.specs.declared.Sensor.the-variants.{Missing, Raw}
 use Rattle.promises.specs.States.{isLive}
 use Rattle.promises.specs.Calls.{Call, tick, sample, slot, step}
 use Rattle.promises.specs.Histories.{after, slots, sent}
 use Rattle.promises.specs.Node1.{node1, asks, writes, command, sync}
 use Rattle.promises.specs.Gap.{among, lastEmergency, saysMissing, saysGood, isPosition, Unrelieved}
 
 -- Boot-up, missing told, a good sample told, 1017h = 1, Operational: TPDO1, the heartbeat, a reply and TPDO2 wait.
 abbrev pub busyLine : List Call
-busyLine = slot ∷ slot ∷ sample (Raw 69637) ∷ slot ∷ writes (bytes 0x2B 0x17 0x10 0x00 0x01 0x00 0 0) ++ command 0x01 ∷ tick ∷ asks ∷ sync ∷ []
+busyLine =
+    slot ∷ slot ∷ sample (Raw 69637) ∷ slot ∷ writes (bytes 0x2B 0x17 0x10 0x00 0x01 0x00 0 0) ++ command 0x01 ∷ tick ∷ asks ∷ sync ∷ []
 
 -- The master floods the head: a tick, a request and a SYNC before each slot, a sample that is refused, the present state commanded.
 abbrev pub busyMaster : List Call

@@ -1,5 +1,6 @@
--- A line in which all five kinds wait, by calls from power-up: the last of them leaves at the fifth slot although a busy master floods the head,
--- and each of 01's withdrawals takes what it names and no more. Shows that what specs/FiveSlots.antt asks of a head and of calls can be met.
+-- A line in which all five kinds wait, by calls from power-up: the last of them leaves at the fifth
+-- slot although a busy master floods the head, and each of 01's withdrawals takes what it names and no
+-- more. Shows that what `FiveSlots` of crate promises asks of a head and of calls can be met.
 use Prim.Native.Nat.{ℕ}
 use mathlib.Core.Path.{_≡_}
 use mathlib.Core.List.{List, [], _∷_, _++_}
@@ -76,6 +77,7 @@ pub record FullLine : Type 0 where
   pub beats-no-more : Takes unasked (request (bytes 0x2B 0x17 0x10 0x00 0 0 0 0)) (emergency ∷ tpdo1 ∷ tpdo2 ∷ sdoReply ∷ [])
   -- and the emergency joins by a write of 1014h, ahead of its reply: switched off, missing, switched on
   pub speaks : Waits (after node1 (at 7 ++ writes (bytes 0x23 0x14 0x10 0x00 0x81 0x00 0x00 0x80) ++ sample Missing ∷ [])) []
-      × Waits (after node1 (at 7 ++ writes (bytes 0x23 0x14 0x10 0x00 0x81 0x00 0x00 0x80) ++ sample Missing ∷ request (bytes 0x23 0x14 0x10 0x00 0x81 0 0 0) ∷ []))
+      × Waits (after node1 (at 7 ++ writes (bytes 0x23 0x14 0x10 0x00 0x81 0x00 0x00 0x80) ++ sample Missing ∷ request
+      (bytes 0x23 0x14 0x10 0x00 0x81 0 0 0) ∷ []))
       (emergency ∷ sdoReply ∷ [])
   pub silenced : Takes unasked (request (bytes 0x23 0x14 0x10 0x00 0x81 0x00 0x00 0x80)) (tpdo1 ∷ tpdo2 ∷ heartbeat ∷ sdoReply ∷ [])

@@ -1,12 +1,13 @@
 -- A head by calls from power-up at which "save" and "load" are followed by other calls and a reset, by computation.
 use Prim.Native.Nat.{ℕ}
+use lib.Dec.{eqb}
 use mathlib.Core.Path.{_≡_, refl, sym, ap, subst, _∙_}
 use mathlib.Core.Bool.{false}
 use mathlib.Core.List.{List, []}
 use mathlib.Core.Logic.{inl, inr}
 use mathlib.Core.Option.{some}
-use lib.Dec.{eqb}
 use borrow.Author.Tests.{eqb-false}
+use Rattle.cases.specs.Padded.{pad}
 use Rattle.can.specs.declared.Received.{Received}
 use Rattle.entries.specs.declared.Settings.{Settings}
 use Rattle.entries.specs.Settings.{pdo, factory}
@@ -17,20 +18,20 @@ use Rattle.dictionary.specs.Writes.{written}
 use Rattle.dictionary.specs.Worked.{save, load}
 use Rattle.sdo.specs.Service.{confirmation, due}
 use Rattle.sdo.specs.Worked.{bytes}
-use Rattle.cases.specs.Padded.{pad}
 use Rattle.parts.specs.declared.Head.{Head}
 use Rattle.promises.specs.States.{missingReading, ofNode, toReset}
 use Rattle.promises.specs.Acts.{settledTo, act}
 use Rattle.promises.specs.Calls.{receive, received}
 use Rattle.promises.specs.Meant.{Commands, dueTo}
 use Rattle.promises.specs.Histories.{after}
 use Rattle.promises.specs.Node1.{node1, toNode1, writes, toAll}
 use Rattle.promises.specs.Worked.{missing}
-use Rattle.promises.specs.Effects.{writing}
 use Rattle.promises.specs.Readings.{readsIn}
-use Rattle.promises.specs.Resets.{Saves, None, beating, between, Met, MetBySave, MetByLoad}
-use Rattle.promises.proofs.EffectsMet.{standing, asked}
-use Rattle.promises.proofs.Node1.{reached}
+use Rattle.promises.specs.Resets.{Saves, None}
+use Rattle.runs.specs.Effects.{writing}
+use Rattle.runs.specs.Resets.{beating, between, Met, MetBySave, MetByLoad, Restoring}
+use Rattle.runs.proofs.Effects.{standing, asked}
+use Rattle.runs.proofs.Node1.{reached}
 
 -- missing and told, with this 1017h and reply
 abbrev settings : ℕ → Settings
@@ -58,7 +59,8 @@ beating-is : after node1 beating ≡ settled
 beating-is = ap (λ h. after h (writes (bytes 0x2B 0x17 0x10 0x00 0xE8 0x03 0 0))) to-missing ∙ to-settled
 
 -- a write of another entry
-other-written : (h : Head) (f : Received) (k n : ℕ) → dueTo h f ≡ confirmation k n → eqb k 0x1010_01 ≡ false → eqb k 0x1011_01 ≡ false → Saves h (receive f) → ⊥
+other-written : (h : Head) (f : Received) (k n : ℕ) → dueTo h f ≡ confirmation k n → eqb k 0x1010_01 ≡ false → eqb k 0x1011_01 ≡ false
+    → Saves h (receive f) → ⊥
 other-written h f k n e a b (v, inl w) = let q = w .accepted in eqb-false k 0x1010_01 a (cc)
 other-written h f k n e a b (v, inr w) = let q = w .accepted in eqb-false k 0x1011_01 b (cc)
 
@@ -95,3 +97,7 @@ met-by-load =
     (λ x. x, (other-written _ _ 0x1017_00 500 refl refl refl, (λ x. x, tt)))
     (record { hears = record { unrefused = refl; heard = refl }; identifier = refl; says = refl })
     refl
+
+pub restoring : Restoring
+unfolding entries table lookup shownAt written due act settledTo
+restoring = record { saves = refl; changes = (refl, refl); all = (refl, refl); below = (refl, refl) }

@@ -7,14 +7,14 @@ use Rattle.dictionary.specs.Reads.{shownAt}
 use Rattle.dictionary.specs.Writes.{written}
 use Rattle.sdo.specs.Service.{due}
 use Rattle.parts.specs.declared.Sensor.the-variants.{Missing}
 use Rattle.promises.specs.Acts.{settledTo, act}
 use Rattle.promises.specs.Calls.{sample, step}
 use Rattle.promises.specs.Histories.{after}
 use Rattle.promises.specs.Node1.{node1}
 use Rattle.promises.specs.Gap.{Unrelieved}
-use Rattle.promises.specs.Busy.{busyLine, busyMaster, held, wait, Busy}
 use Rattle.promises.proofs.Gap.{gap}
-use Rattle.promises.proofs.Node1.{power-up}
+use Rattle.runs.specs.Busy.{busyLine, busyMaster, held, wait, Busy}
+use Rattle.runs.proofs.Node1.{power-up}
 
 unrelieved : Unrelieved 1 (step (after node1 busyLine) (sample Missing)) busyMaster
 unfolding entries table lookup shownAt written due act settledTo

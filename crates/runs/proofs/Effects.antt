@@ -5,12 +5,13 @@ use mathlib.Core.Path.{_≡_, refl, sym, ap, ap₂, subst, _∙_}
 use mathlib.Core.Bool.{Bool, true, false}
 use mathlib.Core.List.{List, [], _∷_, _++_, map}
 use Rattle.cases.proofs.Cases.{Each, _▸_, end}
+use Rattle.cases.specs.Padded.{pad}
 use Rattle.entries.specs.declared.Reading.{Reading}
 use Rattle.entries.specs.declared.Settings.{Settings}
 use Rattle.entries.specs.declared.table.Found.the-variants.{At}
 use Rattle.entries.specs.Settings.{pdo, factory}
 use Rattle.entries.specs.Table.{entries, table, lookup}
-use Rattle.dictionary.specs.Accepted.{refusal}
+use Rattle.dictionary.specs.Accepted.{abortCode}
 use Rattle.dictionary.specs.Reads.{shownAt}
 use Rattle.dictionary.specs.Writes.{written}
 use Rattle.dictionary.specs.Worked.{save, load, writes as allWrites}
@@ -18,17 +19,16 @@ use Rattle.sdo.specs.Request.{indexOf, subOf}
 use Rattle.sdo.specs.Service.{confirmation, dueOf, due}
 use Rattle.sdo.specs.Worked.{bytes}
 use Rattle.waiting.specs.Line.{places}
-use Rattle.cases.specs.Padded.{pad}
 use Rattle.parts.specs.declared.Head.{Head}
 use Rattle.parts.specs.declared.Sensor.the-variants.{Raw}
 use Rattle.promises.specs.States.{preOperational, state, atRest}
 use Rattle.promises.specs.Acts.{settledTo, act}
 use Rattle.promises.specs.Calls.{Call, sample, slot}
 use Rattle.promises.specs.Meant.{Requests, dueTo}
 use Rattle.promises.specs.Histories.{after}
 use Rattle.promises.specs.Node1.{identity1, node1, toNode1, writes}
-use Rattle.promises.specs.Effects.{ready, writing, Met, MetWhenReady}
-use Rattle.promises.proofs.Node1.{reached}
+use Rattle.runs.specs.Effects.{ready, writing, Met, MetWhenReady}
+use Rattle.runs.proofs.Node1.{reached}
 
 -- Node 1, Pre-operational, with that reading, that announced, these settings and that last reply; nothing waits.
 abbrev pub standing : Reading → Bool → Settings → List ℕ → Head
@@ -45,7 +45,8 @@ standing r told s reply =
     }
 
 pub asked : (r : Reading) (told : Bool) (s : Settings) (reply b : List ℕ) → Requests (standing r told s reply) (toNode1 b)
-asked r told s reply b = record { hears = record { unrefused = refl; heard = refl }; identifier = refl; length = refl; live = refl; free = refl }
+asked r told s reply b =
+    record { hears = record { unrefused = refl; heard = refl }; identifier = refl; length = refl; live = refl; free = refl }
 
 -- at the raw position 100, with these identifiers of the PDOs, 6000h, 6002h and reply
 abbrev settings : ℕ → ℕ → ℕ → ℕ → Settings
@@ -96,7 +97,9 @@ unfolding entries table lookup written due act settledTo
 to-scaled = refl
 
 ready-is : after node1 ready ≡ scaled
-ready-is = ap (λ h. after h (off1 ++ off2 ++ scale)) to-fresh ∙ ap (λ h. after h (off2 ++ scale)) to-one-off ∙ ap (λ h. after h scale) to-both-off ∙ to-scaled
+ready-is =
+    ap (λ h. after h (off1 ++ off2 ++ scale)) to-fresh ∙ ap (λ h. after h (off2 ++ scale)) to-one-off
+    ∙ ap (λ h. after h scale) to-both-off ∙ to-scaled
 
 -- what is found first, and then what is due
 module _ (w : ℕ × ℕ) where
@@ -135,7 +138,7 @@ in-turn f g end = refl
 in-turn f g (e ▸ es) = ap₂ _∷_ e (in-turn f g es)
 
 pub met : MetWhenReady
-unfolding entries table lookup refusal shownAt due
+unfolding entries table lookup abortCode shownAt due
 met =
     subst Met (sym ready-is)
     (record {

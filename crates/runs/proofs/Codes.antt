@@ -1,0 +1,25 @@
+-- `CodesMet` of specs/Codes.antt, by computation.
+use mathlib.Core.Path.{refl}
+use Rattle.entries.specs.Table.{entries, table, lookup}
+use Rattle.dictionary.specs.Reads.{shownAt}
+use Rattle.dictionary.specs.Writes.{written}
+use Rattle.sdo.specs.Service.{due}
+use Rattle.promises.specs.States.{operational, stopped}
+use Rattle.promises.specs.Acts.{reset, settledTo, act}
+use Rattle.runs.specs.Codes.{CodesMet}
+
+pub codes-met : CodesMet
+unfolding entries table lookup shownAt written due act settledTo
+codes-met =
+    record {
+      pre-operational = record { is-first = refl; its-code = refl; sent = refl };
+      operational = record { is-first = refl; its-code = refl; sent = refl };
+      stopped = record { is-first = refl; its-code = refl; sent = refl };
+      again = record { is-first = refl; its-code = refl; sent = refl };
+      is-booted = refl;
+      is-said = refl;
+      reset = refl;
+      booted = refl;
+      tpdo1 = record { is-first = refl; sent = refl };
+      tpdo2 = record { is-first = refl; sent = refl };
+    }

@@ -1,0 +1,22 @@
+-- `Losing` of specs/ErrorList.antt, by computation.
+use mathlib.Core.Path.{refl}
+use Rattle.entries.specs.Table.{entries, table, lookup}
+use Rattle.dictionary.specs.Reads.{shownAt}
+use Rattle.dictionary.specs.Writes.{written}
+use Rattle.sdo.specs.Service.{due}
+use Rattle.promises.specs.Acts.{settledTo, act}
+use Rattle.promises.proofs.Service.{is-request}
+use Rattle.runs.specs.ErrorList.{Losing}
+
+pub losing : Losing
+unfolding entries table lookup shownAt written due act settledTo
+losing =
+    record {
+      five-lost = refl;
+      four-read = refl;
+      empties = record { requests = is-request _ _ .0 refl; accepted = refl };
+      one-lost = refl;
+      one-read = refl;
+      kept = refl;
+      second-blank = refl;
+    }

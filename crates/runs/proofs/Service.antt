@@ -1,0 +1,23 @@
+-- `Serving` of specs/Service.antt, by computation.
+use mathlib.Core.Path.{refl}
+use Rattle.entries.specs.Table.{entries, table, lookup}
+use Rattle.dictionary.specs.Reads.{shownAt}
+use Rattle.dictionary.specs.Writes.{written}
+use Rattle.sdo.specs.Service.{due}
+use Rattle.promises.specs.Acts.{settledTo, act}
+use Rattle.promises.proofs.Service.{is-request}
+use Rattle.runs.specs.Service.{Serving}
+
+pub serving : Serving
+unfolding entries table lookup shownAt written due act settledTo
+serving =
+    record {
+      requests = is-request _ _ .0 refl;
+      sends-first = refl;
+      owes-first = refl;
+      answers-first = refl;
+      sends-next = refl;
+      owes-next = refl;
+      answers-next = refl;
+      withdrawn = refl;
+    }
