@@ -14,7 +14,8 @@ by P true f g = f refl
 by P false f g = g refl
 
 -- the same of two, chosen by one test
-pub by₂ {ℓ κ ι} : {A : Type ℓ} {B : Type κ} {a b : A} {c d : B} (P : A → B → Type ι) (t : Bool) → (t ≡ true → P a c) → (t ≡ false → P b d) → P (cond t a b) (cond t c d)
+pub by₂ {ℓ κ ι} : {A : Type ℓ} {B : Type κ} {a b : A} {c d : B} (P : A → B → Type ι) (t : Bool) → (t ≡ true → P a c) → (t ≡ false → P b d)
+    → P (cond t a b) (cond t c d)
 by₂ P true f g = f refl
 by₂ P false f g = g refl
 

@@ -2,6 +2,7 @@
 use can::Bytes;
 use can::Frame;
 use entries::Device;
+use entries::Identity;
 use waiting::Line;
 
 // A state, named with its heartbeat code.
@@ -39,18 +40,18 @@ pub struct Timers {
 // All but the line. `announced` is whether the reading last announced was good. `reply` holds the bytes of the SDO reply last made.
 #[repr(C)]
 pub struct Core {
-    pub device: Device,
     pub nmt: Nmt,
     pub announced: bool,
     pub timers: Timers,
     pub reply: Bytes,
+    pub device: Device,
 }
 
 // A head is made by `power_up` and altered by the calls only: the promises are for such heads, and each call leaves one.
 #[repr(C)]
 pub struct Head {
-    pub core: Core,
     pub line: Line,
+    pub core: Core,
 }
 
 // The number of a refusal, 0 for none, and the head, which a refused frame or sample leaves as it was.
@@ -69,17 +70,15 @@ pub struct Sent {
     pub head: Head,
 }
 
+// What power-up is given.
+#[repr(C)]
+pub struct Setup {
+    pub node: u8,
+    pub identity: Identity,
+}
+
 // What the sensor gives.
 pub enum Sensor {
     Missing,
     Raw(u32),
-}
-
-// A flag for each kind.
-pub struct Flags {
-    pub emergency: bool,
-    pub reply: bool,
-    pub heartbeat: bool,
-    pub tpdo1: bool,
-    pub tpdo2: bool,
 }

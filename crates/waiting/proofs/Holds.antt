@@ -102,7 +102,7 @@ module _ {n : ℕ} {l ws : List ℕ} (h : Holds n l ws) where
 pub holds-taken : {n : ℕ} {l ws : List ℕ} → Holds n l ws → Holds n (takenIn l) (drop 1 ws)
 holds-taken {n} {l} {ws} h = rw (holds-first h, ← withdraw-first n ws (h .kinds)) (holds-withdraw h (first ws))
 
-holds-withdraws : {n : ℕ} {l ws : List ℕ} (ks : List ℕ) → Holds n l ws → Holds n (withdrawsIn l ks) (withdraws ws ks)
+pub holds-withdraws : {n : ℕ} {l ws : List ℕ} (ks : List ℕ) → Holds n l ws → Holds n (withdrawsIn l ks) (withdraws ws ks)
 holds-withdraws [] h = h
 holds-withdraws (k ∷ ks) h = holds-withdraws ks (holds-withdraw h k)
 

@@ -3,7 +3,8 @@ use Prim.Native.Nat.{ℕ}
 use Rattle.waiting.specs.Line.{order}
 use Rattle.waiting.specs.Laws.{Laws, InTurn}
 use Rattle.waiting.proofs.Room.{finds-room}
-use Rattle.waiting.proofs.Holds.{holds-none, holds-join, holds-withdraw, holds-taken, holds-first, holds-idle, holds-has, holds-waiting, holds-after}
+use Rattle.waiting.proofs.Holds.{holds-none, holds-join, holds-withdraw, holds-taken, holds-first, holds-idle, holds-has}
+use Rattle.waiting.proofs.Holds.{holds-waiting, holds-after}
 use Rattle.waiting.proofs.Order.{in-order, among-trans}
 use Rattle.waiting.proofs.After.{has-after}
 use Rattle.waiting.proofs.Due.{among-due, has-due, named-due, named-order, join-due}

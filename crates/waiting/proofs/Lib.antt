@@ -1,4 +1,5 @@
 pub mod Loops
+pub mod ByPlace
 pub mod After
 pub mod Room
 pub mod Holds
@@ -6,6 +7,7 @@ pub mod Unmoved
 pub mod Order
 pub mod Due
 pub mod Laws
+pub mod Flagged
 pub mod Slots
 pub mod Plain
 pub mod Worked

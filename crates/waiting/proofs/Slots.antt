@@ -76,7 +76,8 @@ waits-pos n k (x ∷ xs) h w =
     test (eqb x k) (λ e. rw (← eqb-true x k e) (h .0)) (λ e. waits-pos n k xs (h .3) (simp e at w))
 
 module _ {S I : Type 0} (M : Machine S I) where
-  later : {b c k : ℕ} {i : I} {is : List I} {s : S} → cond (M .slot i) 1 0 + b ≤ c → LeavesBy M b k (M .step s i) is → LeavesBy M c k s (i ∷ is)
+  later : {b c k : ℕ} {i : I} {is : List I} {s : S} → cond (M .slot i) 1 0 + b ≤ c → LeavesBy M b k (M .step s i) is
+      → LeavesBy M c k s (i ∷ is)
   later {i = i} le w =
       record {
         before = i ∷ w .before;
@@ -93,8 +94,10 @@ module _ {S I : Type 0} (M : Machine S I) where
     Then s is = (r : ℕ) → getD (M .line s) r 0 ≡ k → r < slots M is → LeavesBy M (suc r) k s is
 
     gone : (i : I) (s : S) → M .Good s → has k (M .out s i) ≡ true → Withdrawn M k s i
-    gone i s g e =
-        (e, rw (sound .acts s i g, has-after n (M .slot i) (M .out s i) (M .into s i) (M .line s) k (sound .kinds s g), sound .apart s i k g e, e))
+    gone i s g e = (
+      e,
+      rw (sound .acts s i g, has-after n (M .slot i) (M .out s i) (M .into s i) (M .line s) k (sound .kinds s g), sound .apart s i k g e, e),
+    )
 
     -- k, at place q once the slot has sent: the call withdraws it, or it waits at q or before q after the call
     moves : (i : I) (is : List I) (s : S) (p q : ℕ) → M .Good s
@@ -107,7 +110,8 @@ module _ {S I : Type 0} (M : Machine S I) where
         test (has k (M .out s i))
         (λ e. record { before = []; call = i; rest = is; split = refl; early = omega arith; how = inr (gone i s g e) })
         (λ e.
-        let w : Within k q (withdraws (cond (M .slot i) (drop 1 (M .line s)) (M .line s)) (M .out s i)) = at-withdraws k pos (M .out s i) _ q e h in
+        let w : Within k q (withdraws (cond (M .slot i) (drop 1 (M .line s)) (M .line s)) (M .out s i)) =
+        at-withdraws k pos (M .out s i) _ q e h in
         let v : getD (M .line (M .step s i)) (w .at) 0 ≡ k = rw (sound .acts s i g) (at-joins k pos (M .into s i) _ (w .at) (w .is)) in
         later (omega arith) (ih (w .at) v (omega arith)))
 
@@ -134,7 +138,8 @@ module _ {S I : Type 0} (M : Machine S I) where
   demand3 {n} sound s k is g w enough =
       let c : Place k (M .line s) = place k (M .line s) w in
       let short : length (M .line s) ≤ n = room n (M .line s) (sound .kinds s g) in
-      let v : LeavesBy M (suc (c .at)) k s is = leaves sound k (waits-pos n k (M .line s) (sound .kinds s g) w) is s (c .at) g (c .is) (omega arith) in
+      let v : LeavesBy M (suc (c .at)) k s is =
+      leaves sound k (waits-pos n k (M .line s) (sound .kinds s g) w) is s (c .at) g (c .is) (omega arith) in
       record { before = v .before; call = v .call; rest = v .rest; split = v .split; early = omega arith; how = v .how }
 
   -- what is recorded of a slot: the first of the line at that slot

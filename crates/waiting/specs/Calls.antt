@@ -1,9 +1,9 @@
 -- What a call does to the line: a slot sends the first; then, of any call, the kinds `out` are withdrawn and the kinds `into` join.
 -- `after` says it of the line, `afterIn` of the places that hold it.
-use Prim.Native.Nat.{ℕ, _<_, _≤_}
-use mathlib.Core.Bool.{Bool, cond}
+use Prim.Native.Nat.{ℕ, _-_, _<_, _≤_}
+use mathlib.Core.Bool.{Bool, false, cond}
 use mathlib.Core.List.{List, [], _∷_}
-use lib.ListN.{drop}
+use lib.ListN.{drop, getD}
 use Rattle.waiting.specs.Line.{join, withdraw}
 use Rattle.waiting.specs.Places.{joinIn, withdrawIn, takenIn}
 
@@ -38,6 +38,10 @@ ifDue due k = cond due (k ∷ []) []
 abbrev pub thoseDue : (ℕ → Bool) → List ℕ → List ℕ
 thoseDue due [] = []
 thoseDue due (k ∷ ks) = cond (due k) (k ∷ thoseDue due ks) (thoseDue due ks)
+
+-- whether a kind is flagged, where the flags stand in the order of the kinds' numbers
+abbrev pub flagged : List Bool → ℕ → Bool
+flagged flags k = getD flags (k - 1) false
 
 -- the kinds of a list are kinds 1 to n
 pub data Named (n : ℕ) : List ℕ → Type 0 where

@@ -18,7 +18,8 @@ pub data Among : List ℕ → List ℕ → Type 0 where
   skip : {x : ℕ} {xs ys : List ℕ} → Among xs ys → Among xs (x ∷ ys)
   keep : {x : ℕ} {xs ys : List ℕ} → Among xs ys → Among (x ∷ xs) (x ∷ ys)
 
--- After a call stand those who stayed, in the order in which they waited, and behind them those who came, in the order in which they joined.
+-- After a call stand those who stayed, in the order in which they waited, and behind them those who came, in the order in which
+-- they joined.
 pub record InOrder (slot : Bool) (out into ws : List ℕ) : Type 0 where
   pub stayed : List ℕ
   pub came : List ℕ
@@ -44,7 +45,8 @@ pub record Laws (n : ℕ) : Type 0 where
   pub waits : {l ws : List ℕ} (k : ℕ) → 0 < k → Holds n l ws → has k l ≡ has k ws
   pub all : {l ws : List ℕ} → Holds n l ws → waiting l ≡ ws
   -- a call leaves a proper line, in the places too
-  pub holds : {l ws : List ℕ} (slot : Bool) (out into : List ℕ) → Named n into → Holds n l ws → Holds n (afterIn slot out into l) (after slot out into ws)
+  pub holds : {l ws : List ℕ} (slot : Bool) (out into : List ℕ) → Named n into → Holds n l ws
+      → Holds n (afterIn slot out into l) (after slot out into ws)
   -- those who waited and stay are in their order, and those who come stand behind them in theirs
   pub in-order : (slot : Bool) (out into ws : List ℕ) → InOrder slot out into ws
   -- a kind waits after a call exactly if it joined, or waited and was neither withdrawn nor sent

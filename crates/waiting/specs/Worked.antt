@@ -34,8 +34,10 @@ pub record Worked : Type 0 where
   -- no priority: TPDO1 waits, then an SDO reply joins, and TPDO1 is sent first
   pub no-priority : first (joinIn (pad places (tpdo1 ∷ [])) sdoReply) ≡ tpdo1
   -- due in one call they join in the order given, behind those that wait
-  pub in-turn : joinsIn none (thoseDue (λ k. has k (tpdo2 ∷ heartbeat ∷ emergency ∷ [])) order) ≡ pad places (emergency ∷ heartbeat ∷ tpdo2 ∷ [])
-  pub behind : joinsIn three (thoseDue (λ k. has k (tpdo2 ∷ tpdo1 ∷ sdoReply ∷ [])) order) ≡ pad places (emergency ∷ heartbeat ∷ tpdo1 ∷ sdoReply ∷ tpdo2 ∷ [])
+  pub in-turn : joinsIn none (thoseDue (λ k. has k (tpdo2 ∷ heartbeat ∷ emergency ∷ [])) order)
+      ≡ pad places (emergency ∷ heartbeat ∷ tpdo2 ∷ [])
+  pub behind : joinsIn three (thoseDue (λ k. has k (tpdo2 ∷ tpdo1 ∷ sdoReply ∷ [])) order)
+      ≡ pad places (emergency ∷ heartbeat ∷ tpdo1 ∷ sdoReply ∷ tpdo2 ∷ [])
   -- joining again changes nothing, in a full line too
   pub once : joinIn three heartbeat ≡ three
   pub full : joinIn all emergency ≡ all

@@ -1,13 +1,14 @@
 //! The waiting line: the kinds of frames that wait, first to last.
 
 ghost use mathlib.Core.Path.{_≡_};
-ghost use mathlib.Core.List.{[]};
-ghost use Prim.Native.Nat.{_<_};
-ghost use lib.ListN.{set};
+ghost use mathlib.Core.Bool.{_||_, cond};
+ghost use mathlib.Core.List.{[], _∷_};
+ghost use lib.Dec.{eqb};
+ghost use lib.ListN.{take};
 ghost use Rattle.cases.specs.Padded.{pad};
-ghost use Rattle.waiting.specs.Line.{places, has, first as firstOf};
+ghost use Rattle.waiting.specs.Line.{places, order, has, first as firstOf};
 ghost use Rattle.waiting.specs.Places.{joinIn, withdrawIn, takenIn, waiting, Holds};
-ghost use Rattle.waiting.specs.Calls.{ifDue, joinsIn, withdrawsIn};
+ghost use Rattle.waiting.specs.Calls.{ifDue, joinsIn, withdrawsIn, thoseDue, flagged};
 
 // The kinds. Several that join in one call join in the order of these numbers.
 pub const EMERGENCY: u8 = 1;
@@ -48,41 +49,55 @@ pub fn waits(line: Line, kind: u8) -> bool
 pub fn join(line: Line, kind: u8) -> Line
     ensures { λ r. ⌜ r ≡ joinIn line kind ⌝ }
 {
-    for i in 0..PLACES {
-        let waiting = line[i];
-        if waiting == EMPTY {
-            return put(line, i, kind);
-        }
-        if waiting == kind {
-            return line;
-        }
+    let one = line[0];
+    let two = line[1];
+    let three = line[2];
+    let four = line[3];
+    let five = line[4];
+    if takes(one, kind) {
+        return [kind, two, three, four, five];
+    }
+    if takes(two, kind) {
+        return [one, kind, three, four, five];
+    }
+    if takes(three, kind) {
+        return [one, two, kind, four, five];
+    }
+    if takes(four, kind) {
+        return [one, two, three, kind, five];
+    }
+    if takes(five, kind) {
+        return [one, two, three, four, kind];
     }
     line
 }
 
-fn put(line: Line, at: usize, kind: u8) -> Line
-    requires { ⌜ at < places ⌝ }
-    ensures { λ r. ⌜ r ≡ set line at kind ⌝ }
+// An empty place takes a kind; one that waits already keeps its place.
+fn takes(place: u8, kind: u8) -> bool
+    ensures { λ r. ⌜ r ≡ (eqb place 0 || eqb place kind) ⌝ }
 {
-    let mut changed = line;
-    changed[at] = kind;
-    changed
+    (place == EMPTY) | (place == kind)
 }
 
 pub fn withdraw(line: Line, kind: u8) -> Line
     ensures { λ r. ⌜ r ≡ withdrawIn line kind ⌝ }
 {
-    let mut others = [EMPTY; PLACES];
-    let mut count: usize = 0;
-    for i in 0..PLACES {
-        let other = line[i];
-        if other == kind {
-            continue;
-        }
-        others[count] = other;
-        count += 1;
+    let left = none();
+    let left = behind(line[4], left, kind);
+    let left = behind(line[3], left, kind);
+    let left = behind(line[2], left, kind);
+    let left = behind(line[1], left, kind);
+    behind(line[0], left, kind)
+}
+
+// The others behind one, unless it is of the kind that goes.
+fn behind(one: u8, others: Line, kind: u8) -> Line
+    ensures { λ r. ⌜ r ≡ cond (eqb one kind) others (one ∷ take 4 others) ⌝ }
+{
+    if one == kind {
+        return others;
     }
-    others
+    [one, others[0], others[1], others[2], others[3]]
 }
 
 // The kind that a slot sends, 0 where none waits.
@@ -110,4 +125,28 @@ pub fn withdraw_if(line: Line, due: bool, kind: u8) -> Line
     ensures { λ r. ⌜ r ≡ withdrawsIn line (ifDue due kind) ⌝ }
 {
     if due { withdraw(line, kind) } else { line }
+}
+
+// A flag for each kind, in the order of the kinds' numbers.
+pub type Flags = [bool; PLACES];
+
+// Those that are flagged join, in their order.
+pub fn join_those(line: Line, comes: Flags) -> Line
+    ensures { λ r. ⌜ r ≡ joinsIn line (thoseDue (flagged comes) order) ⌝ }
+{
+    let joined = join_if(line, comes[0], EMERGENCY);
+    let joined = join_if(joined, comes[1], SDO_REPLY);
+    let joined = join_if(joined, comes[2], HEARTBEAT);
+    let joined = join_if(joined, comes[3], TPDO1);
+    join_if(joined, comes[4], TPDO2)
+}
+
+pub fn withdraw_those(line: Line, goes: Flags) -> Line
+    ensures { λ r. ⌜ r ≡ withdrawsIn line (thoseDue (flagged goes) order) ⌝ }
+{
+    let left = withdraw_if(line, goes[0], EMERGENCY);
+    let left = withdraw_if(left, goes[1], SDO_REPLY);
+    let left = withdraw_if(left, goes[2], HEARTBEAT);
+    let left = withdraw_if(left, goes[3], TPDO1);
+    withdraw_if(left, goes[4], TPDO2)
 }

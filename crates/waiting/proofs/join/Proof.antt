@@ -1,58 +1,140 @@
--- `join` meets its contract, by the loop laws of Joining. Assumes nothing.
-use Prim.Native.Nat.{_-_}
-use native.Mathlib.Omega.{arith}
+-- `join` meets its contract, place by place.
+use Rattle.waiting.proofs.ByPlace.{five-places, joins-five}
+use mathlib.Core.Path.{sym}
 use borrow.Author.Needs.{needs}
-use mathlib.Core.Path.{refl, _∙_}
-use Rattle.waiting.specs.Line.{places}
-use Rattle.waiting.proofs.Loops.{Joining, join-empty, join-here, join-past, join-end}
 use Rattle.waiting.proofs.join.Statement.{statement}
 use Rattle.waiting.proofs.join.Tie as tie
 
-abbrev Inv-loop : tie.InvT-loop
-Inv-loop kind line i₀ i = Joining places kind line i
+array-read-one : tie.Need-array-read-one
+array-read-one c = search needs
 
-abbrev μ-loop : tie.MeasureT-loop
-μ-loop kind line i₀ i = places - i
+array-read-two : tie.Need-array-read-two
+array-read-two c = search needs
 
-loop-holds : tie.Need-loop-holds Inv-loop μ-loop
-loop-holds c = record { long = search needs; within = omega arith; rest = refl }
+array-read-three : tie.Need-array-read-three
+array-read-three c = search needs
 
-array-read-waiting : tie.Need-array-read-waiting Inv-loop μ-loop
-array-read-waiting c = omega arith
+array-read-four : tie.Need-array-read-four
+array-read-four c = search needs
 
-put-requires : tie.Need-put-requires Inv-loop μ-loop
-put-requires c κs = omega arith
+array-read-five : tie.Need-array-read-five
+array-read-five c = search needs
 
-returns : tie.Need-returns Inv-loop μ-loop
-returns c = c .put .ensures ∙ (search join-empty)
+takes-requires : tie.Need-takes-requires
+takes-requires c κs = search needs
 
-returns-2 : tie.Need-returns-2 Inv-loop μ-loop
-returns-2 c = search join-here
+returns : tie.Need-returns
+returns c =
+    let a = c .before .before .args in
+    rw (
+      ← joins-five (a .t1) (a .kind) (search needs),
+      ← c .before .takes .ensures,
+      c .if1 .taken,
+    )
 
-add-i : tie.Need-add-i Inv-loop μ-loop
-add-i c = omega arith
+takes-requires-2 : tie.Need-takes-requires-2
+takes-requires-2 c κs = search needs
 
-loop-less : tie.Need-loop-less Inv-loop μ-loop
-loop-less c = omega arith
+returns-2 : tie.Need-returns-2
+returns-2 c =
+    let a = c .before .before .before .before .args in
+    rw (
+      ← joins-five (a .t1) (a .kind) (search needs),
+      ← c .before .before .before .takes .ensures,
+      c .before .before .if1 .left,
+      ← c .before .takes2 .ensures,
+      c .if2 .taken,
+    )
 
-loop-again : tie.Need-loop-again Inv-loop μ-loop
-loop-again c = search join-past
+takes-requires-3 : tie.Need-takes-requires-3
+takes-requires-3 c κs = search needs
 
-returns-3 : tie.Need-returns-3 Inv-loop μ-loop
-returns-3 c = search join-end
+returns-3 : tie.Need-returns-3
+returns-3 c =
+    let a = c .before .before .before .before .before .before .args in
+    rw (
+      ← joins-five (a .t1) (a .kind) (search needs),
+      ← c .before .before .before .before .before .takes .ensures,
+      c .before .before .before .before .if1 .left,
+      ← c .before .before .before .takes2 .ensures,
+      c .before .before .if2 .left,
+      ← c .before .takes3 .ensures,
+      c .if3 .taken,
+    )
+
+takes-requires-4 : tie.Need-takes-requires-4
+takes-requires-4 c κs = search needs
+
+returns-4 : tie.Need-returns-4
+returns-4 c =
+    let a = c .before .before .before .before .before .before .before .before .args in
+    rw (
+      ← joins-five (a .t1) (a .kind) (search needs),
+      ← c .before .before .before .before .before .before .before .takes .ensures,
+      c .before .before .before .before .before .before .if1 .left,
+      ← c .before .before .before .before .before .takes2 .ensures,
+      c .before .before .before .before .if2 .left,
+      ← c .before .before .before .takes3 .ensures,
+      c .before .before .if3 .left,
+      ← c .before .takes4 .ensures,
+      c .if4 .taken,
+    )
+
+takes-requires-5 : tie.Need-takes-requires-5
+takes-requires-5 c κs = search needs
+
+returns-5 : tie.Need-returns-5
+returns-5 c =
+    let a = c .before .before .before .before .before .before .before .before .before .before .args in
+    rw (
+      ← joins-five (a .t1) (a .kind) (search needs),
+      ← c .before .before .before .before .before .before .before .before .before .takes .ensures,
+      c .before .before .before .before .before .before .before .before .if1 .left,
+      ← c .before .before .before .before .before .before .before .takes2 .ensures,
+      c .before .before .before .before .before .before .if2 .left,
+      ← c .before .before .before .before .before .takes3 .ensures,
+      c .before .before .before .before .if3 .left,
+      ← c .before .before .before .takes4 .ensures,
+      c .before .before .if4 .left,
+      ← c .before .takes5 .ensures,
+      c .if5 .taken,
+    )
+
+returns-6 : tie.Need-returns-6
+returns-6 c =
+    let a = c .before .before .before .before .before .before .before .before .before .before .args in
+    rw (
+      ← joins-five (a .t1) (a .kind) (search needs),
+      ← c .before .before .before .before .before .before .before .before .before .takes .ensures,
+      c .before .before .before .before .before .before .before .before .if1 .left,
+      ← c .before .before .before .before .before .before .before .takes2 .ensures,
+      c .before .before .before .before .before .before .if2 .left,
+      ← c .before .before .before .before .before .takes3 .ensures,
+      c .before .before .before .before .if3 .left,
+      ← c .before .before .before .takes4 .ensures,
+      c .before .before .if4 .left,
+      ← c .before .takes5 .ensures,
+      c .if5 .left,
+    )
+    (sym (five-places (a .t1) (search needs)))
 
 pub join-spec : {M : Type 1} → statement M
 join-spec =
     tie.close
     (tie.spec
-    Inv-loop
-    μ-loop
-    loop-holds
-    array-read-waiting
-    put-requires
+    array-read-one
+    array-read-two
+    array-read-three
+    array-read-four
+    array-read-five
+    takes-requires
     returns
+    takes-requires-2
     returns-2
-    add-i
-    loop-less
-    loop-again
-    returns-3)
+    takes-requires-3
+    returns-3
+    takes-requires-4
+    returns-4
+    takes-requires-5
+    returns-5
+    returns-6)

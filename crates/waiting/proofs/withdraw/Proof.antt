@@ -1,66 +1,68 @@
--- `withdraw` meets its contract, by the loop laws of Withdrawing. Assumes nothing.
-use Prim.Native.Nat.{_-_}
-use native.Mathlib.Omega.{arith}
+-- `withdraw` meets its contract, from the last place to the first.
+use Rattle.waiting.proofs.ByPlace.{stays-five}
 use borrow.Author.Needs.{needs}
-use mathlib.Core.Path.{refl}
-use Rattle.waiting.specs.Line.{places}
-use Rattle.waiting.proofs.Loops.{Withdrawing, withdraw-here, withdraw-past, withdraw-end}
 use Rattle.waiting.proofs.withdraw.Statement.{statement}
 use Rattle.waiting.proofs.withdraw.Tie as tie
 
-abbrev Inv-loop : tie.InvT-loop
-Inv-loop kind line others₀ count₀ i₀ others count i = Withdrawing places kind line others count i
+none-requires : tie.Need-none-requires
+none-requires c κs = search needs
 
-abbrev μ-loop : tie.MeasureT-loop
-μ-loop kind line others₀ count₀ i₀ others count i = places - i
+array-read-behind : tie.Need-array-read-behind
+array-read-behind c = search needs
 
-loop-holds : tie.Need-loop-holds Inv-loop μ-loop
-loop-holds c = record { long = search needs; within = omega arith; few = omega arith; count = refl; is = refl }
+behind-requires : tie.Need-behind-requires
+behind-requires c κs = search needs
 
-array-read-other : tie.Need-array-read-other Inv-loop μ-loop
-array-read-other c = omega arith
+array-read-behind-2 : tie.Need-array-read-behind-2
+array-read-behind-2 c = search needs
 
-add-i : tie.Need-add-i Inv-loop μ-loop
-add-i c = omega arith
+behind-requires-2 : tie.Need-behind-requires-2
+behind-requires-2 c κs = search needs
 
-loop-less : tie.Need-loop-less Inv-loop μ-loop
-loop-less c = omega arith
+array-read-behind-3 : tie.Need-array-read-behind-3
+array-read-behind-3 c = search needs
 
-loop-again : tie.Need-loop-again Inv-loop μ-loop
-loop-again c = search withdraw-here
+behind-requires-3 : tie.Need-behind-requires-3
+behind-requires-3 c κs = search needs
 
-array-write-others : tie.Need-array-write-others Inv-loop μ-loop
-array-write-others c = omega arith
+array-read-behind-4 : tie.Need-array-read-behind-4
+array-read-behind-4 c = search needs
 
-add-count : tie.Need-add-count Inv-loop μ-loop
-add-count c = omega arith
+behind-requires-4 : tie.Need-behind-requires-4
+behind-requires-4 c κs = search needs
 
-add-i-2 : tie.Need-add-i-2 Inv-loop μ-loop
-add-i-2 c = omega arith
+array-read-behind-5 : tie.Need-array-read-behind-5
+array-read-behind-5 c = search needs
 
-loop-less-2 : tie.Need-loop-less-2 Inv-loop μ-loop
-loop-less-2 c = omega arith
+behind-requires-5 : tie.Need-behind-requires-5
+behind-requires-5 c κs = search needs
 
-loop-again-2 : tie.Need-loop-again-2 Inv-loop μ-loop
-loop-again-2 c = search withdraw-past
-
-returns : tie.Need-returns Inv-loop μ-loop
-returns c = search withdraw-end
+returns : tie.Need-returns
+returns c =
+    let a = c .before .before .before .before .before .before .args in
+    rw (
+      c .behind5 .ensures,
+      c .before .behind4 .ensures,
+      c .before .before .behind3 .ensures,
+      c .before .before .before .behind2 .ensures,
+      c .before .before .before .before .behind .ensures,
+      c .before .before .before .before .before .none .ensures,
+    )
+    (stays-five (a .t1) (a .kind) (search needs))
 
 pub withdraw-spec : {M : Type 1} → statement M
 withdraw-spec =
     tie.close
     (tie.spec
-    Inv-loop
-    μ-loop
-    loop-holds
-    array-read-other
-    add-i
-    loop-less
-    loop-again
-    array-write-others
-    add-count
-    add-i-2
-    loop-less-2
-    loop-again-2
+    none-requires
+    array-read-behind
+    behind-requires
+    array-read-behind-2
+    behind-requires-2
+    array-read-behind-3
+    behind-requires-3
+    array-read-behind-4
+    behind-requires-4
+    array-read-behind-5
+    behind-requires-5
     returns)
