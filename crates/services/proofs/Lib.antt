@@ -1,2 +1,0 @@
-pub mod Periods
-pub mod Settling

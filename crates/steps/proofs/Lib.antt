@@ -1,0 +1,4 @@
+pub mod Ticks
+pub mod Slots
+pub mod Heard
+pub mod Received

@@ -1,0 +1,131 @@
+-- A received frame: the head that its way leaves is the one that `promises` says, and it is valid.
+use Prim.Native.Nat.{ℕ, _<_}
+use native.Mathlib.Omega.{arith}
+use lib.Dec.{eqb, leb}
+use mathlib.Core.Path.{_≡_, refl, sym, ap, ap₂, subst, _∙_}
+use mathlib.Core.Bool.{false, not, _&&_, _||_}
+use mathlib.Core.List.{List}
+use borrow.Author.Tests.{ne-eqb}
+use Rattle.cases.proofs.Cases.{by}
+use Rattle.can.specs.declared.Received.{Received}
+use Rattle.position.specs.Profile.{ValidProfile}
+use Rattle.entries.specs.Keys.{errorCountKey, saveKey, loadKey, operatingKey, presetKey, cycleKey}
+use Rattle.dictionary.specs.Writes.{Fits}
+use Rattle.sdo.specs.declared.reply.Effect.the-variants.{Write}
+use Rattle.parts.specs.declared.Head.{Head}
+use Rattle.promises.specs.States.{ofNode, ofCommunication}
+use Rattle.promises.specs.Acts.{Act, serve, act}
+use Rattle.promises.specs.Calls.{receive, step, answered}
+use Rattle.promises.specs.Valid.{Valid}
+use Rattle.promises.specs.Promised.{Receives}
+use Rattle.promises.proofs.Nothing.{act-nothing}
+use Rattle.promises.proofs.Valid.{valid-step}
+use Rattle.tpdo.proofs.Synchronised as tpdo
+use Rattle.nmt.proofs.Entered as nmt
+use Rattle.server.proofs.Requests as server
+use Rattle.steps.specs.declared.hear.Heard.{Heard}
+use Rattle.steps.specs.Hear.{replyingBy, heardBy}
+use Rattle.steps.specs.Obey.{repliedIn, syncedIn, configuredIn, scaledIn, enteredIn, restartedIn, savedIn, emptiedIn, obeyedIn}
+use Rattle.steps.proofs.Heard.{Means, passes, syncs, enters, resets, replies, writes, means}
+
+refusal-so : {h : Head} {n : ℕ} {w : Heard} {a : Act} → Means h n w a → w .refusal ≡ n
+refusal-so (passes n) = refl
+refusal-so syncs = refl
+refusal-so (enters g e) = refl
+refusal-so (resets r) = refl
+refusal-so (replies b l) = refl
+refusal-so (writes b k x l f) = refl
+
+-- where nothing is written, the key is none
+no-preset : (p : ℕ) → 0 ≡ presetKey → 0 < p
+no-preset p e = absurd (omega (arith, e))
+
+fits-so : {h : Head} {n : ℕ} {w : Heard} {a : Act} → Means h n w a → Fits (h .core .device .settings .profile) (w .key) (w .value)
+fits-so (passes n) = no-preset _
+fits-so syncs = no-preset _
+fits-so (enters g e) = no-preset _
+fits-so (resets r) = no-preset _
+fits-so (replies b l) = no-preset _
+fits-so (writes b k x l f) = f
+
+no-way : (h : Head) (w : Heard) (n : ℕ) → (n ≡ 1 → ⊥) → (n ≡ 2 → ⊥) → (n ≡ 3 → ⊥) → (n ≡ 4 → ⊥) → (n ≡ 5 → ⊥) → (n ≡ 6 → ⊥)
+    → (n ≡ 7 → ⊥) → (n ≡ 8 → ⊥) → obeyedIn h w n ≡ h
+no-way h w n a b c d e g i j =
+    rw (
+      ne-eqb n 1 a,
+      ne-eqb n 2 b,
+      ne-eqb n 3 c,
+      ne-eqb n 4 d,
+      ne-eqb n 5 e,
+      ne-eqb n 6 g,
+      ne-eqb n 7 i,
+      ne-eqb n 8 j,
+    )
+
+module _ (h : Head) (v : Valid h) where
+  abbrev Written : List ℕ → ℕ → ℕ → ℕ → Type 0
+  Written b k x way = obeyedIn h (replyingBy way b k x) way ≡ act false h (serve (record { bytes = b; effect = Write k x }))
+
+  obeys : {n : ℕ} {w : Heard} {a : Act} → Means h n w a → Valid (act false h a) → obeyedIn h w (w .way) ≡ act false h a
+  obeys (passes n) u = sym (act-nothing h)
+  obeys syncs u = tpdo.syncs h v
+  obeys (enters g e) u = nmt.enters h v g e
+  obeys (resets ofNode) u = nmt.resets h v ofNode u
+  obeys (resets ofCommunication) u = nmt.resets h v ofCommunication u
+  obeys (replies b l) u = server.replies h v l b
+  obeys (writes b k x l f) u =
+      by (Written b k x) (eqb k errorCountKey) (λ e. server.empties h v l b k x e) (λ e.
+      by (Written b k x) (eqb k saveKey || eqb k loadKey) (λ s. server.saves h v l b k x s) (λ s.
+      by (Written b k x) (leb operatingKey k && not (eqb k cycleKey))
+      (λ p. server.scales h v l b k x e s p)
+      (λ p. server.configures h v l b k x e s p)))
+
+  module _ (f : Received) where
+    abbrev pub w : Heard
+    w = heardBy (h .core .nmt) (h .core .device) (h .line) f
+
+    obeyed : obeyedIn h w (w .way) ≡ step h (receive f)
+    obeyed = obeys (means h f) (valid-step h (receive f) v)
+
+    pub leaves : {r : Head} → r ≡ obeyedIn h w (w .way) → Receives h f (answered (w .refusal) r)
+    leaves p =
+        let q = p ∙ obeyed in
+        (ap₂ answered (refusal-so (means h f)) q, subst Valid (sym q) (valid-step h (receive f) v))
+
+    goes : (n : ℕ) → w .way ≡ n → Receives h f (answered (w .refusal) (obeyedIn h w n))
+    goes n e = leaves (ap (obeyedIn h w) (sym e))
+
+    -- what `steps::hear::hear`, and the steps of a write, ask for
+    pub profile-valid : ValidProfile (h .core .device .settings .profile)
+    profile-valid = v .device .settings .profile
+
+    pub value-fits : Fits (h .core .device .settings .profile) (w .key) (w .value)
+    value-fits = fits-so (means h f)
+
+    pub passes-by : (w .way ≡ 1 → ⊥) → (w .way ≡ 2 → ⊥) → (w .way ≡ 3 → ⊥) → (w .way ≡ 4 → ⊥) → (w .way ≡ 5 → ⊥) → (w .way ≡ 6 → ⊥)
+        → (w .way ≡ 7 → ⊥) → (w .way ≡ 8 → ⊥) → Receives h f (answered (w .refusal) h)
+    passes-by a b c d e g i j = leaves (sym (no-way h w (w .way) a b c d e g i j))
+
+    pub replies-so : w .way ≡ 1 → Receives h f (answered (w .refusal) (repliedIn h w))
+    replies-so e = goes 1 e
+
+    pub syncs-so : w .way ≡ 2 → Receives h f (answered (w .refusal) (syncedIn h))
+    syncs-so e = goes 2 e
+
+    pub configures-so : w .way ≡ 3 → Receives h f (answered (w .refusal) (configuredIn h w))
+    configures-so e = goes 3 e
+
+    pub scales-so : w .way ≡ 4 → Receives h f (answered (w .refusal) (scaledIn h w))
+    scales-so e = goes 4 e
+
+    pub enters-so : w .way ≡ 5 → Receives h f (answered (w .refusal) (enteredIn h w))
+    enters-so e = goes 5 e
+
+    pub resets-so : w .way ≡ 6 → Receives h f (answered (w .refusal) (restartedIn h w))
+    resets-so e = goes 6 e
+
+    pub saves-so : w .way ≡ 7 → Receives h f (answered (w .refusal) (savedIn h w))
+    saves-so e = goes 7 e
+
+    pub empties-so : w .way ≡ 8 → Receives h f (answered (w .refusal) (emptiedIn h w))
+    empties-so e = goes 8 e

@@ -1,0 +1,4 @@
+pub mod Tick
+pub mod Slot
+pub mod Hear
+pub mod Obey

@@ -1,0 +1,71 @@
+-- What a SYNC leaves of the parts that it may alter, put back, is the head that a SYNC leaves.
+use Prim.Native.Nat.{ℕ}
+use native.Mathlib.Omega.{arith}
+use mathlib.Core.Path.{_≡_, refl, sym, ap, _∙_}
+use mathlib.Core.Bool.{Bool, true, false, _&&_, cond, and-false, and-not-self}
+use mathlib.Core.List.{List, [], _∷_}
+use Rattle.cases.proofs.Cases.{by, by₂, test}
+use Rattle.dictionary.specs.Accepted.{on}
+use Rattle.waiting.specs.Line as line
+use Rattle.waiting.specs.Calls.{joinsIn, withdrawsIn, ifDue}
+use Rattle.waiting.proofs.Unmoved.{keeps-place}
+use Rattle.parts.specs.declared.Core.{Core}
+use Rattle.parts.specs.declared.Head.{Head}
+use Rattle.parts.specs.Put.{withLine, withTimers}
+use Rattle.promises.specs.States.{PdoNumber, one, two, pdo, clock, communication, good, operational, isIn}
+use Rattle.promises.specs.Timers.{synchronous, completes, timersSynced}
+use Rattle.promises.specs.WaitingLine.{tpdo, mayJoin, isAlerting}
+use Rattle.promises.specs.Acts.{sync, timing, syncMoments, goes, comes, settledTo, act}
+use Rattle.promises.specs.Valid.{Valid}
+use Rattle.tpdo.specs.Sync.{joinsAt, syncedBy}
+
+-- a PDO's moment, gated by what it is gated by anyway
+gated : (s c o n g : Bool) → ((s && c) && ((o && n) && g)) ≡ (((n && s) && c) && ((o && n) && g))
+gated s c o true g = refl
+gated s c o false g = simp and-false
+
+-- a kind that joins in front of others
+in-front : (due : Bool) (k : ℕ) (ks l : List ℕ) → joinsIn l (cond due (k ∷ ks) ks) ≡ joinsIn (joinsIn l (ifDue due k)) ks
+in-front true k ks l = refl
+in-front false k ks l = refl
+
+module _ (h : Head) (v : Valid h) where
+  abbrev c : Core
+  c = h .core
+
+  abbrev after : Core
+  after = timing c (timersSynced (communication c) (c .timers))
+
+  -- other counts of SYNCs withdraw none
+  none-goes : goes c after ≡ []
+  none-goes = simp and-not-self
+
+  abbrev joins : PdoNumber → Bool
+  joins w = joinsAt (c .nmt) (good c) (pdo (communication c) w) (clock (c .timers) w)
+
+  joins-so : (w : PdoNumber) → (syncMoments (communication c) (c .timers) (tpdo w) && mayJoin after (tpdo w)) ≡ joins w
+  joins-so w =
+      let p = pdo (communication c) w in
+      gated (synchronous p) (completes (p .transmission) (clock (c .timers) w .syncs)) (isIn operational c) (on (p .identifier)) (good c)
+
+  abbrev pdos : List ℕ
+  pdos = cond (joins one) (line.tpdo1 ∷ cond (joins two) (line.tpdo2 ∷ []) []) (cond (joins two) (line.tpdo2 ∷ []) [])
+
+  -- an emergency that may wait does already
+  emergency-waits : joinsIn (h .line) (cond (isAlerting c) (line.emergency ∷ pdos) pdos) ≡ joinsIn (h .line) pdos
+  emergency-waits =
+      by (λ (ks : List ℕ). joinsIn (h .line) ks ≡ joinsIn (h .line) pdos) (isAlerting c)
+      (λ e. ap (λ l. joinsIn l pdos) (keeps-place (v .line) line.emergency (omega arith) (omega arith) (v .urgent e)))
+      (λ _. refl)
+
+  line-so : joinsIn (withdrawsIn (h .line) (goes c after)) (comes (syncMoments (communication c) (c .timers)) after)
+      ≡ joinsIn (joinsIn (h .line) (ifDue (joins one) line.tpdo1)) (ifDue (joins two) line.tpdo2)
+  line-so =
+      rw (none-goes, joins-so one, joins-so two)
+      (emergency-waits ∙ in-front (joins one) line.tpdo1 (ifDue (joins two) line.tpdo2) (h .line))
+
+  pub syncs :
+      let z = syncedBy (c .nmt) (communication c) (c .timers) (good c) (h .line) in
+      withLine (withTimers h (z .timers)) (z .line) ≡ act false h sync
+  unfolding act settledTo
+  syncs = ap {B = Head} (λ l. record { line = l; core = after }) (sym line-so)

@@ -1,0 +1,97 @@
+//! The transmit PDOs: their types, what is counted of them, when it is their moment, their frame; SYNC.
+ghost use mathlib.Core.Path.{_≡_};
+ghost use Rattle.can.specs.Number.{lowFirst};
+ghost use Rattle.position.specs.Position.{position};
+ghost use Rattle.position.specs.Profile.{ValidProfile};
+ghost use Rattle.promises.specs.States.{uncounted as uncountedClock};
+ghost use Rattle.promises.specs.Timers.{synchronous, clockWritten};
+ghost use Rattle.promises.specs.WaitingLine.{mayShow, frame as frameWith};
+ghost use Rattle.tpdo.specs.Moments.{eventCount, syncCount};
+use acceptance::is_on;
+use can::Frame;
+use counting::Count;
+use counting::counted;
+use counting::restarted;
+use entries::Pdo;
+use parts::Clock;
+use parts::Nmt;
+use position::Profile;
+
+pub mod sync;
+
+// Types 1 to 240 are sent at each so-many-th SYNC, types 254 and 255 by events.
+const MOST_SYNCS: u32 = 240;
+
+const LENGTH: u8 = 4;
+
+pub fn is_synchronous(pdo: Pdo) -> bool
+    ensures { λ r. ⌜ r ≡ synchronous pdo ⌝ }
+{
+    (1 <= pdo.transmission) & (pdo.transmission <= MOST_SYNCS)
+}
+
+pub fn may_join(state: Nmt, identifier: u32, good: bool) -> bool
+    ensures { λ r. ⌜ r ≡ mayShow state identifier good ⌝ }
+{
+    states::is_operational(state) & is_on(identifier) & good
+}
+
+pub fn uncounted() -> Clock
+    ensures { λ r. ⌜ r ≡ uncountedClock ⌝ }
+{
+    Clock { ticks: 0, syncs: 0 }
+}
+
+// The event timer after a tick, and whether it is the PDO's moment. It counts in Operational only.
+pub fn ticked(operational: bool, pdo: Pdo, ticks: u32) -> Count
+    ensures { λ r. ⌜ r ≡ eventCount operational pdo ticks ⌝ }
+{
+    if !operational {
+        return Count {
+            count: ticks,
+            ends: false,
+        };
+    }
+    let next = counted(pdo.event, ticks);
+    Count {
+        count: next.count,
+        ends: !is_synchronous(pdo) & next.ends,
+    }
+}
+
+// The SYNCs after one more in Operational, and whether it is the PDO's moment.
+pub fn synced(pdo: Pdo, syncs: u32) -> Count
+    ensures { λ r. ⌜ r ≡ syncCount pdo syncs ⌝ }
+{
+    if is_on(pdo.identifier) & is_synchronous(pdo) {
+        return counted(pdo.transmission, syncs);
+    }
+    Count {
+        count: syncs,
+        ends: false,
+    }
+}
+
+// After a write that may have switched the PDO on; `event`: it was one to its sub 5.
+pub fn written(event: bool, before: Pdo, after: Pdo, clock: Clock) -> Clock
+    ensures { λ r. ⌜ r ≡ clockWritten event before after clock ⌝ }
+{
+    let switched_on = !is_on(before.identifier) & is_on(after.identifier);
+    Clock {
+        ticks: restarted(event | switched_on, clock.ticks),
+        syncs: restarted(switched_on, clock.syncs),
+    }
+}
+
+pub fn frame(identifier: u32, profile: Profile, raw: u32) -> Frame
+    requires { ⌜ ValidProfile profile ⌝ }
+    ensures { λ r. ⌜ r ≡ frameWith identifier 4 (lowFirst 4 (position profile raw)) ⌝ }
+{
+    let position = position::position_of(profile, raw);
+    let low = can::long_bytes(position);
+    Frame {
+        identifier,
+        length: LENGTH,
+        bytes: [low[0], low[1], low[2], low[3], 0, 0, 0, 0],
+    }
+}
