@@ -1,10 +1,2 @@
-pub mod CommandTests
-pub mod RequestTests
-pub mod FrameTests
-pub mod SlotTests
-pub mod SlotParts
-pub mod TickTests
-pub mod SampleTests
-pub mod SyncTests
-pub mod CallTests
-pub mod Passing
+pub mod PowerUps
+pub mod Slots

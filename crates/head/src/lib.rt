@@ -1,12 +1,9 @@
-//! The head by value: power-up, frame received, tick, sample, slot.
+//! The head by value: power-up, frame received, tick, sample, slot. Each call hands parts of the head to a step and puts back those that come out of it.
 ghost use mathlib.Core.Path.{_≡_};
-ghost use mathlib.Core.Bool.{false};
 ghost use Rattle.promises.specs.States.{started as startedHead};
-ghost use Rattle.promises.specs.Acts.{act};
 ghost use Rattle.parts.specs.declared.Sensor.the-variants.{Missing, Raw};
-ghost use Rattle.promises.specs.Calls.{heardUnrefused as heardAs, answered};
+ghost use Rattle.promises.specs.Calls.{answered};
 ghost use Rattle.promises.specs.Valid.{Valid};
-ghost use Rattle.head.specs.Passing.{passesBy};
 ghost use Rattle.promises.specs.Promised.{PowersUp, Receives, Ticks, Samples, Slots};
 use can::Received;
 use entries::Device;
@@ -19,34 +16,20 @@ use parts::Head;
 use parts::Nmt;
 use parts::Sensor;
 use parts::Sent;
-use services::state;
-use services::time;
+use parts::Setup;
 
-mod nmt;
+mod obeying;
 mod sending;
-mod service;
-pub mod steps;
-mod sync;
-mod tape;
-
-pub const BAD_SAMPLE: u8 = 3;
 
 pub const BAD_NODE: u8 = 4;
 
-// The identifiers that the head hears; a request's is REQUEST plus the node number.
-const COMMAND: u32 = 0x000;
-
-const SYNC: u32 = 0x080;
-
-const REQUEST: u32 = 0x600;
-
-pub const HIGHEST_RAW: u32 = 1_048_575;
-
 // Initialising, with factory settings, the reading missing. A node number that is not 1..127 is refused with 4,
 // and the head is then of node 1 with identity numbers 0.
-pub fn power_up(node: u8, identity: Identity) -> Answer
-    ensures { λ r. ⌜ PowersUp node identity r ⌝ }
+pub fn power_up(setup: Setup) -> Answer
+    ensures { λ r. ⌜ PowersUp (setup .node) (setup .identity) r ⌝ }
 {
+    let node = setup.node;
+    let identity = setup.identity;
     if (1 <= node) & (node <= 127) {
         return Answer {
             refusal: can::NO_REFUSAL,
@@ -70,7 +53,12 @@ fn started(node: u8, identity: Identity) -> Head
 {
     let line = waiting::none();
     Head {
+        line,
         core: Core {
+            nmt: Nmt::INITIALISING,
+            announced: true,
+            timers: nmt::entry::at_rest(),
+            reply: [0, 0, 0, 0, 0, 0, 0, 0],
             device: Device {
                 node,
                 identity,
@@ -82,12 +70,7 @@ fn started(node: u8, identity: Identity) -> Head
                 settings: Settings::factory(node),
                 saved: Settings::factory(node),
             },
-            nmt: Nmt::INITIALISING,
-            announced: true,
-            timers: time::at_rest(),
-            reply: [0, 0, 0, 0, 0, 0, 0, 0],
         },
-        line,
     }
 }
 
@@ -96,52 +79,14 @@ pub fn receive(head: Head, frame: Received) -> Answer
     requires { ⌜ Valid head ⌝ }
     ensures { λ r. ⌜ Receives head frame r ⌝ }
 {
-    let refusal = can::refusal(frame);
-    if refusal != can::NO_REFUSAL {
-        return Answer { refusal, head };
-    }
+    let state = head.core.nmt;
+    let device = head.core.device;
+    let line = head.line;
+    let heard = steps::hear::hear(state, device, line, frame);
     Answer {
-        refusal,
-        head: heard(head, frame),
+        refusal: heard.refusal,
+        head: obeying::obeyed(head, heard),
     }
-}
-
-// Whether a frame is seen at once to leave the head alone: for none that the head hears, refused, not to be heard, or a command that
-// does nothing. One that does not pass may still change nothing.
-pub fn passes(head: Head, frame: Received) -> bool
-    ensures { λ r. ⌜ r ≡ passesBy head frame ⌝ }
-{
-    let state = head.core.nmt;
-    let request = REQUEST + head.core.device.node as u32;
-    let identifier = frame.identifier;
-    let known = (identifier == COMMAND) | (identifier == SYNC) | (identifier == request);
-    if !known {
-        return true;
-    }
-    let refused = can::refusal(frame) != can::NO_REFUSAL;
-    let unheard = frame.extended | frame.remote | state::is_initialising(state);
-    let idle = (identifier == COMMAND) & !nmt::obeyed(head, frame);
-    refused | unheard | idle
-}
-
-fn heard(head: Head, frame: Received) -> Head
-    requires { ⌜ Valid head ⌝ }
-    ensures { λ r. ⌜ r ≡ act false head (heardAs head frame) ⌝ }
-{
-    let state = head.core.nmt;
-    if frame.extended | frame.remote | state::is_initialising(state) {
-        return head;
-    }
-    if frame.identifier == COMMAND {
-        return nmt::commanded(head, frame);
-    }
-    if frame.identifier == SYNC {
-        return sync::synchronised(head, frame.length);
-    }
-    if frame.identifier == REQUEST + head.core.device.node as u32 {
-        return service::requested(head, frame);
-    }
-    head
 }
 
 // 1 ms went by.
@@ -153,19 +98,29 @@ pub fn tick(head: Head) -> Head
     let settings = head.core.device.settings.communication;
     let counted = head.core.timers;
     let waiting = head.line;
-    let left = steps::tick(
-        state,
-        settings,
-        counted,
-        head.core.device.reading.good,
-        head.core.announced,
-        waiting,
-    );
-    let timers = left.timers;
-    let line = left.line;
+    let good = head.core.device.reading.good;
+    let announced = head.core.announced;
+    let ticked = steps::tick::tick(state, settings, counted, good, announced);
+    let timers = ticked.timers;
+    let due = ticked.due;
     let mut core = head.core;
     core.timers = timers;
-    Head { core, line }
+    if ticked.way != steps::tick::SETTLES {
+        return Head {
+            line: waiting,
+            core,
+        };
+    }
+    let line = settling::joined(
+        waiting,
+        state,
+        settings,
+        timers.inhibit,
+        good,
+        announced,
+        due,
+    );
+    Head { line, core }
 }
 
 // A raw position, or "missing". A raw position above 1,048,575 is refused with 3.
@@ -176,32 +131,63 @@ pub fn sample(head: Head, sensor: Sensor) -> Answer
     let Sensor::Raw(raw) = sensor else {
         return Answer {
             refusal: can::NO_REFUSAL,
-            head: missing(head),
+            head: sample_missing(head),
         };
     };
-    read(head, raw)
+    sample_raw(head, raw)
 }
 
-pub fn missing(head: Head) -> Head
+pub fn sample_missing(head: Head) -> Head
     requires { ⌜ Valid head ⌝ }
     ensures { λ r. ⌜ Samples head Missing (answered 0 r) ⌝ }
 {
-    tape::lost(head)
+    let state = head.core.nmt;
+    let settings = head.core.device.settings.communication;
+    let waiting = head.line;
+    let left = samples::missing(
+        state,
+        settings,
+        head.core.timers.inhibit,
+        head.core.device.reading.good,
+        head.core.device.errors,
+        head.core.announced,
+        waiting,
+    );
+    let reading = left.reading;
+    let line = left.line;
+    let mut device = head.core.device;
+    device.reading = reading;
+    device.errors = left.errors;
+    let mut core = head.core;
+    core.device = device;
+    Head { line, core }
 }
 
-pub fn read(head: Head, raw: u32) -> Answer
+pub fn sample_raw(head: Head, raw: u32) -> Answer
     requires { ⌜ Valid head ⌝ }
     ensures { λ r. ⌜ Samples head (Raw raw) r ⌝ }
 {
-    if HIGHEST_RAW < raw {
-        return Answer {
-            refusal: BAD_SAMPLE,
-            head,
-        };
-    }
+    let state = head.core.nmt;
+    let present = head.core.device.reading;
+    let waiting = head.line;
+    let left = samples::raw(
+        state,
+        head.core.device.settings.communication.emergency,
+        head.core.timers.inhibit,
+        present,
+        head.core.announced,
+        waiting,
+        raw,
+    );
+    let reading = left.reading;
+    let line = left.line;
+    let mut device = head.core.device;
+    device.reading = reading;
+    let mut core = head.core;
+    core.device = device;
     Answer {
-        refusal: can::NO_REFUSAL,
-        head: tape::taken(head, raw),
+        refusal: left.refusal,
+        head: Head { line, core },
     }
 }
 
@@ -210,17 +196,16 @@ pub fn slot(head: Head) -> Sent
     requires { ⌜ Valid head ⌝ }
     ensures { λ r. ⌜ Slots head r ⌝ }
 {
-    let left = steps::slot(head);
-    let frame = left.frame;
-    let state = left.nmt;
-    let line = left.line;
-    let mut core = head.core;
-    core.nmt = state;
-    core.announced = left.announced;
-    core.timers.inhibit = left.inhibit;
+    let state = head.core.nmt;
+    let settings = head.core.device.settings;
+    let reading = head.core.device.reading;
+    let reply = head.core.reply;
+    let line = head.line;
+    let slotted = steps::slot::slot(head.core.device.node, state, settings, reading, reply, line);
+    let frame = slotted.outgoing.frame;
     Sent {
-        waited: left.waited,
+        waited: slotted.outgoing.waited,
         frame,
-        head: Head { core, line },
+        head: sending::sent(head, slotted.way),
     }
 }

@@ -1,26 +1,24 @@
--- `receive` meets its promise: the frame refused, or heard.
-use Rattle.head.proofs.CallTests.{receives}
-use Rattle.head.proofs.FrameTests.{refused, unrefused}
-use mathlib.Core.Path.{_∙_}
+-- `receive` meets its promise: the frame is told apart, and its way leaves the head that the promises say.
+use mathlib.Core.Path.{refl}
 use borrow.Author.Needs.{needs}
+use Rattle.steps.proofs.Received.{leaves, profile-valid, value-fits}
 use Rattle.head.proofs.receive.Statement.{statement}
 use Rattle.head.proofs.receive.Tie as tie
 
-refusal-requires : tie.Need-refusal-requires
-refusal-requires c κs = search needs
+hear-requires : tie.Need-hear-requires
+hear-requires c κs = let a = c .before .before .before in profile-valid (a .args .head) (a .pre) (a .args .frame)
+
+obeyed-requires : tie.Need-obeyed-requires
+obeyed-requires c κs =
+    let a = c .before .before .before .before in
+    let h = a .args .head in
+    let f = a .args .frame in
+    rw (c .hear .ensures) (record { valid = profile-valid h (a .pre) f; fits = λ _. value-fits h (a .pre) f })
 
 returns : tie.Need-returns
 returns c =
-    let a = c .before .before in
-    receives (a .args .head) (a .pre) (a .args .frame) (c .before .refusal .ensures) (refused (a .args .head) (a .args .frame) (rw (← c .before .refusal .ensures) (c .if1 .taken)))
-
-heard-requires : tie.Need-heard-requires
-heard-requires c κs = search needs
-
-returns-2 : tie.Need-returns-2
-returns-2 c =
-    let a = c .before .before .before in
-    receives (a .args .head) (a .pre) (a .args .frame) (c .before .before .refusal .ensures) (c .heard .ensures ∙ unrefused (a .args .head) (a .args .frame) (rw (← c .before .before .refusal .ensures) (c .before .if1 .left)))
+    let a = c .before .before .before .before .before in
+    rw (c .obeyed .ensures, c .before .hear .ensures) (leaves (a .args .head) (a .pre) (a .args .frame) refl)
 
 pub receive-spec : {M : Type 1} → statement M
-receive-spec = tie.close (tie.spec refusal-requires returns heard-requires returns-2)
+receive-spec = tie.close (tie.spec hear-requires obeyed-requires returns)

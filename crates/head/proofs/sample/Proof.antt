@@ -1,4 +1,4 @@
--- `sample` meets its promise: missing, or read.
+-- `sample` meets its promise: missing, or a raw position.
 use borrow.Author.Needs.{needs}
 use Rattle.head.proofs.sample.Statement.{statement}
 use Rattle.head.proofs.sample.Tie as tie
@@ -9,18 +9,25 @@ enum-known-sensor c = search needs
 enum-told : tie.Need-enum-told
 enum-told c = search needs
 
-missing-requires : tie.Need-missing-requires
-missing-requires c κs = search needs
+sample-missing-requires : tie.Need-sample-missing-requires
+sample-missing-requires c κs = search needs
 
 returns : tie.Need-returns
-returns c = rw (c .before .enum-told .given .1) (c .missing .ensures)
+returns c = rw (c .before .enum-told .given .1) (c .sample-missing .ensures)
 
-read-requires : tie.Need-read-requires
-read-requires c κs = search needs
+sample-raw-requires : tie.Need-sample-raw-requires
+sample-raw-requires c κs = search needs
 
 returns-2 : tie.Need-returns-2
-returns-2 c = rw (c .before .before .sensor .given .1) (c .read .ensures)
+returns-2 c = rw (c .before .before .sensor .given .1) (c .sample-raw .ensures)
 
 pub sample-spec : {M : Type 1} → statement M
 sample-spec =
-    tie.close (tie.spec enum-known-sensor enum-told missing-requires returns read-requires returns-2)
+    tie.close
+    (tie.spec
+    enum-known-sensor
+    enum-told
+    sample-missing-requires
+    returns
+    sample-raw-requires
+    returns-2)

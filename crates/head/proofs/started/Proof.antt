@@ -16,8 +16,14 @@ at-rest-requires : tie.Need-at-rest-requires
 at-rest-requires c κs = search needs
 
 returns : tie.Need-returns
-returns c = rw (c .at-rest .ensures, c .before .factory2 .ensures, c .before .before .factory .ensures, c .before .before .before .none .ensures)
+returns c =
+    rw (
+      c .factory2 .ensures,
+      c .before .factory .ensures,
+      c .before .before .at-rest .ensures,
+      c .before .before .before .none .ensures,
+    )
 
 pub started-spec : {M : Type 1} → statement M
 started-spec =
-    tie.close (tie.spec none-requires factory-requires factory-requires-2 at-rest-requires returns)
+    tie.close (tie.spec none-requires at-rest-requires factory-requires factory-requires-2 returns)
