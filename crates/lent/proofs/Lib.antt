@@ -1,13 +1,5 @@
-pub mod Fill2
-pub mod Guarded0
-pub mod Guarded1
-pub mod Handed
-pub mod Look0
-pub mod Parted0
+pub mod Fields
 pub mod Parts
-pub mod Paths
 pub mod Questions
+pub mod Results
 pub mod Rows
-pub mod Thin
-pub mod Thin0
-pub mod Unmoved

@@ -1,71 +1,171 @@
--- The types that the lent calls pass, as `Thin.antt` takes them.
-use mathlib.Core.Path.{refl}
-use mathlib.Core.List.{List, [], _∷_}
-use mir.Val.{Val}
-use denote.Laws.{Is}
-use mir.Syntax.{Ty, w8}
+-- The types that the lent calls pass, as the laws of crate `lending` take them.
+use mir.Syntax.{Ty, tyArray, tyBool, tyInt, w8}
+use denote.Array.{Array}
+use denote.Builtin.{u8}
 use denote.Memory.{pointee}
-use denote.Struct.Laws as LL
+use denote.Plain.{Boolean}
 use Rattle.parts.proofs.Head as Head
 use Rattle.parts.proofs.Head.Laws as Head′
-use Rattle.parts.proofs.Answer as Answer
-use Rattle.parts.proofs.Answer.Laws as Answer′
+use Rattle.parts.proofs.Core as Core
+use Rattle.parts.proofs.Core.Laws as Core′
+use Rattle.parts.proofs.Nmt as Nmt
+use Rattle.parts.proofs.Nmt.Laws as Nmt′
+use Rattle.parts.proofs.Timers as Timers
+use Rattle.parts.proofs.Timers.Laws as Timers′
+use Rattle.entries.proofs.Device as Device
+use Rattle.entries.proofs.Device.Laws as Device′
+use Rattle.entries.proofs.Settings as Settings
+use Rattle.entries.proofs.Settings.Laws as Settings′
+use Rattle.entries.proofs.Reading as Reading
+use Rattle.entries.proofs.Reading.Laws as Reading′
+use Rattle.entries.proofs.Communication as Communication
+use Rattle.entries.proofs.Communication.Laws as Communication′
+use Rattle.position.proofs.Profile as Profile
+use Rattle.position.proofs.Profile.Laws as Profile′
 use Rattle.can.proofs.Received as Received
 use Rattle.can.proofs.Received.Laws as Received′
-use Rattle.entries.proofs.Identity as Identity
-use Rattle.entries.proofs.Identity.Laws as Identity′
-use Rattle.can.proofs.Frame as Frame
-use Rattle.can.proofs.Frame.Laws as Frame′
-use Rattle.parts.specs.declared.Sent.{Sent as Sent-type}
-use Rattle.lent.specs.declared.Due.{Due as Due-type}
-use Rattle.parts.proofs.Sent as Sent
-use Rattle.parts.proofs.Sent.Laws as Sent′
-use Rattle.lent.proofs.Due as Due
-use Rattle.lent.proofs.Due.Laws as Due′
+use Rattle.steps.proofs.hear.Heard as Heard
+use Rattle.steps.proofs.hear.Heard.Laws as Heard′
+use Rattle.server.proofs.effect.Replied as Replied
+use Rattle.server.proofs.effect.Replied.Laws as Replied′
+use Rattle.tpdo.proofs.sync.Synced as Synced
+use Rattle.tpdo.proofs.sync.Synced.Laws as Synced′
+use Rattle.server.proofs.effect.Configured as Configured
+use Rattle.server.proofs.effect.Configured.Laws as Configured′
+use Rattle.server.proofs.effect.Scaled as Scaled
+use Rattle.server.proofs.effect.Scaled.Laws as Scaled′
+use Rattle.nmt.proofs.entry.Entered as Entered
+use Rattle.nmt.proofs.entry.Entered.Laws as Entered′
+use Rattle.nmt.proofs.entry.Restarted as Restarted
+use Rattle.nmt.proofs.entry.Restarted.Laws as Restarted′
+use Rattle.server.proofs.effect.Saved as Saved
+use Rattle.server.proofs.effect.Saved.Laws as Saved′
+use Rattle.server.proofs.effect.Emptied as Emptied
+use Rattle.server.proofs.effect.Emptied.Laws as Emptied′
+use Rattle.samples.proofs.Sampled as Sampled
+use Rattle.samples.proofs.Sampled.Laws as Sampled′
+use Rattle.samples.proofs.Missed as Missed
+use Rattle.samples.proofs.Missed.Laws as Missed′
+use Rattle.steps.proofs.tick.Ticked as Ticked
+use Rattle.steps.proofs.tick.Ticked.Laws as Ticked′
+use Rattle.steps.proofs.slot.Slotted as Slotted
+use Rattle.steps.proofs.slot.Slotted.Laws as Slotted′
+use Rattle.steps.proofs.slot.Outgoing as Outgoing
+use Rattle.steps.proofs.slot.Outgoing.Laws as Outgoing′
+use Rattle.steps.proofs.slot.Booted as Booted
+use Rattle.steps.proofs.slot.Booted.Laws as Booted′
+use Rattle.steps.proofs.slot.Announced as Announced
+use Rattle.steps.proofs.slot.Announced.Laws as Announced′
+use Rattle.steps.proofs.slot.Taken as Taken
+use Rattle.steps.proofs.slot.Taken.Laws as Taken′
+use Rattle.parts.proofs.Answer as Answer
+use Rattle.parts.proofs.Answer.Laws as Answer′
+use Rattle.parts.proofs.Setup as Setup
+use Rattle.parts.proofs.Setup.Laws as Setup′
 use Rattle.lent.proofs.Located as Located
 use Rattle.lent.proofs.Located.Laws as Located′
-use Rattle.lent.proofs.Thin.{Row, Takes, uint-row, struct-row, bool-row, of-fields, of-three}
+use Rattle.lending.proofs.Rows.{Row, uint-row, bool-row, array-row, struct-row}
 
 -- the head's type behind a reference
 abbrev pub lent-head : Ty
 lent-head = pointee (Head.the-row .written)
 
+abbrev pub line-row : Row (Array u8 5) (tyArray (tyInt w8) 5)
+line-row = array-row (uint-row w8) 5
+
+abbrev pub bytes-row : Row (Array u8 8) (tyArray (tyInt w8) 8)
+bytes-row = array-row (uint-row w8) 8
+
+abbrev pub flags-row : Row (Array Boolean 5) (tyArray tyBool 5)
+flags-row = array-row bool-row 5
+
 abbrev pub head-row : Row Head.the-row Head′.mir
 head-row = struct-row Head.the-type Head′.the-laws Head′.the-plain Head′.the-copy Head′.lowers
+
+abbrev pub core-row : Row Core.the-row Core′.mir
+core-row = struct-row Core.the-type Core′.the-laws Core′.the-plain Core′.the-copy Core′.lowers
+
+abbrev pub nmt-row : Row Nmt.the-row Nmt′.mir
+nmt-row = struct-row Nmt.the-type Nmt′.the-laws Nmt′.the-plain Nmt′.the-copy Nmt′.lowers
+
+abbrev pub timers-row : Row Timers.the-row Timers′.mir
+timers-row = struct-row Timers.the-type Timers′.the-laws Timers′.the-plain Timers′.the-copy Timers′.lowers
+
+abbrev pub device-row : Row Device.the-row Device′.mir
+device-row = struct-row Device.the-type Device′.the-laws Device′.the-plain Device′.the-copy Device′.lowers
+
+abbrev pub settings-row : Row Settings.the-row Settings′.mir
+settings-row = struct-row Settings.the-type Settings′.the-laws Settings′.the-plain Settings′.the-copy Settings′.lowers
+
+abbrev pub reading-row : Row Reading.the-row Reading′.mir
+reading-row = struct-row Reading.the-type Reading′.the-laws Reading′.the-plain Reading′.the-copy Reading′.lowers
+
+abbrev pub communication-row : Row Communication.the-row Communication′.mir
+communication-row = struct-row Communication.the-type Communication′.the-laws Communication′.the-plain Communication′.the-copy
+    Communication′.lowers
+
+abbrev pub profile-row : Row Profile.the-row Profile′.mir
+profile-row = struct-row Profile.the-type Profile′.the-laws Profile′.the-plain Profile′.the-copy Profile′.lowers
+
+abbrev pub received-row : Row Received.the-row Received′.mir
+received-row = struct-row Received.the-type Received′.the-laws Received′.the-plain Received′.the-copy Received′.lowers
+
+abbrev pub heard-row : Row Heard.the-row Heard′.mir
+heard-row = struct-row Heard.the-type Heard′.the-laws Heard′.the-plain Heard′.the-copy Heard′.lowers
+
+abbrev pub replied-row : Row Replied.the-row Replied′.mir
+replied-row = struct-row Replied.the-type Replied′.the-laws Replied′.the-plain Replied′.the-copy Replied′.lowers
+
+abbrev pub synced-row : Row Synced.the-row Synced′.mir
+synced-row = struct-row Synced.the-type Synced′.the-laws Synced′.the-plain Synced′.the-copy Synced′.lowers
+
+abbrev pub configured-row : Row Configured.the-row Configured′.mir
+configured-row = struct-row Configured.the-type Configured′.the-laws Configured′.the-plain Configured′.the-copy Configured′.lowers
+
+abbrev pub scaled-row : Row Scaled.the-row Scaled′.mir
+scaled-row = struct-row Scaled.the-type Scaled′.the-laws Scaled′.the-plain Scaled′.the-copy Scaled′.lowers
+
+abbrev pub entered-row : Row Entered.the-row Entered′.mir
+entered-row = struct-row Entered.the-type Entered′.the-laws Entered′.the-plain Entered′.the-copy Entered′.lowers
+
+abbrev pub restarted-row : Row Restarted.the-row Restarted′.mir
+restarted-row = struct-row Restarted.the-type Restarted′.the-laws Restarted′.the-plain Restarted′.the-copy Restarted′.lowers
+
+abbrev pub saved-row : Row Saved.the-row Saved′.mir
+saved-row = struct-row Saved.the-type Saved′.the-laws Saved′.the-plain Saved′.the-copy Saved′.lowers
+
+abbrev pub emptied-row : Row Emptied.the-row Emptied′.mir
+emptied-row = struct-row Emptied.the-type Emptied′.the-laws Emptied′.the-plain Emptied′.the-copy Emptied′.lowers
+
+abbrev pub sampled-row : Row Sampled.the-row Sampled′.mir
+sampled-row = struct-row Sampled.the-type Sampled′.the-laws Sampled′.the-plain Sampled′.the-copy Sampled′.lowers
+
+abbrev pub missed-row : Row Missed.the-row Missed′.mir
+missed-row = struct-row Missed.the-type Missed′.the-laws Missed′.the-plain Missed′.the-copy Missed′.lowers
+
+abbrev pub ticked-row : Row Ticked.the-row Ticked′.mir
+ticked-row = struct-row Ticked.the-type Ticked′.the-laws Ticked′.the-plain Ticked′.the-copy Ticked′.lowers
+
+abbrev pub slotted-row : Row Slotted.the-row Slotted′.mir
+slotted-row = struct-row Slotted.the-type Slotted′.the-laws Slotted′.the-plain Slotted′.the-copy Slotted′.lowers
+
+abbrev pub outgoing-row : Row Outgoing.the-row Outgoing′.mir
+outgoing-row = struct-row Outgoing.the-type Outgoing′.the-laws Outgoing′.the-plain Outgoing′.the-copy Outgoing′.lowers
+
+abbrev pub booted-row : Row Booted.the-row Booted′.mir
+booted-row = struct-row Booted.the-type Booted′.the-laws Booted′.the-plain Booted′.the-copy Booted′.lowers
+
+abbrev pub announced-row : Row Announced.the-row Announced′.mir
+announced-row = struct-row Announced.the-type Announced′.the-laws Announced′.the-plain Announced′.the-copy Announced′.lowers
+
+abbrev pub taken-row : Row Taken.the-row Taken′.mir
+taken-row = struct-row Taken.the-type Taken′.the-laws Taken′.the-plain Taken′.the-copy Taken′.lowers
 
 abbrev pub answer-row : Row Answer.the-row Answer′.mir
 answer-row = struct-row Answer.the-type Answer′.the-laws Answer′.the-plain Answer′.the-copy Answer′.lowers
 
-abbrev pub frame-row : Row Received.the-row Received′.mir
-frame-row = struct-row Received.the-type Received′.the-laws Received′.the-plain Received′.the-copy Received′.lowers
-
-abbrev pub identity-row : Row Identity.the-row Identity′.mir
-identity-row = struct-row Identity.the-type Identity′.the-laws Identity′.the-plain Identity′.the-copy Identity′.lowers
-
-abbrev pub due-row : Row Due.the-row Due′.mir
-due-row = struct-row Due.the-type Due′.the-laws Due′.the-plain Due′.the-copy Due′.lowers
+abbrev pub setup-row : Row Setup.the-row Setup′.mir
+setup-row = struct-row Setup.the-type Setup′.the-laws Setup′.the-plain Setup′.the-copy Setup′.lowers
 
 abbrev pub located-row : Row Located.the-row Located′.mir
 located-row = struct-row Located.the-type Located′.the-laws Located′.the-plain Located′.the-copy Located′.lowers
-
-abbrev pub answer : Takes answer-row (uint-row w8) head-row
-answer = of-fields answer-row (uint-row w8) head-row (λ z. z .refusal) (λ z. z .head) 0 1 {d = 0} {d′ = 4} refl refl (λ z. (refl, refl, refl)) (λ z vs is. (LL.owed Answer.the-type Answer′.the-laws z vs is .0, LL.owed Answer.the-type Answer′.the-laws z vs is .1 .0))
-
-abbrev frame-sent-row : Row Frame.the-row Frame′.mir
-frame-sent-row = struct-row Frame.the-type Frame′.the-laws Frame′.the-plain Frame′.the-copy Frame′.lowers
-
-abbrev pub sent-row : Row Sent.the-row Sent′.mir
-sent-row = struct-row Sent.the-type Sent′.the-laws Sent′.the-plain Sent′.the-copy Sent′.lowers
-
--- what a slot answers is of two fields of what comes back
-abbrev pub due-in : Sent-type → Due-type
-due-in z = record { waited = z .waited; frame = z .frame }
-
-pub due-is : (z : Sent-type) (vs : List Val) → Is Sent.the-row z vs → Is Due.the-row (due-in z) (due-row .val (due-in z) ∷ [])
-due-is z vs is = LL.owes Due.the-type Due′.the-laws (due-in z) (LL.owed Sent.the-type Sent′.the-laws z vs is .0, (LL.owed Sent.the-type Sent′.the-laws z vs is .1 .0, tt))
-
-pub head-is : (z : Sent-type) (vs : List Val) → Is Sent.the-row z vs → Is Head.the-row (z .head) (head-row .val (z .head) ∷ [])
-head-is z vs is = LL.owed Sent.the-type Sent′.the-laws z vs is .1 .1 .0
-
-abbrev pub sent : Takes sent-row due-row head-row
-sent = of-three sent-row due-row head-row bool-row frame-sent-row due-in (λ z. z .head) (λ z. z .waited) (λ z. z .frame) 0 1 2 {d = 0} {d′ = 4} {d″ = 20} refl refl refl (λ z. (refl, refl, refl, refl)) (λ z. refl) (λ z vs is. (due-is z vs is, head-is z vs is))

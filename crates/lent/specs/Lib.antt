@@ -1,3 +1,2 @@
 pub mod Questions
 pub mod Steps
-pub mod Unmoved

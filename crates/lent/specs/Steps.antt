@@ -1,7 +1,7 @@
--- What a slot of a lent head answers beside the head.
+-- What a slot answers by value, of what the lent call answers and the head that it leaves.
 use Rattle.parts.specs.declared.Head.{Head}
 use Rattle.parts.specs.declared.Sent.{Sent}
-use Rattle.lent.specs.declared.Due.{Due}
+use Rattle.steps.specs.declared.slot.Outgoing.{Outgoing}
 
-abbrev pub sentAs : Due → Head → Sent
-sentAs d h = record { waited = d .waited; frame = d .frame; head = h }
+abbrev pub sentAs : Outgoing → Head → Sent
+sentAs o h = record { waited = o .waited; frame = o .frame; head = h }

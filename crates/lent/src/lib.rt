@@ -1,5 +1,5 @@
 //! The head for a host that keeps it in its own memory and lends it for each call; C and Rust link these functions.
-//! Each call hands the head to the covered step by value and puts back what the step leaves; one that is seen to leave it as it is returns first.
+//! Each call hands parts of the head to a step by value and stores the parts that come back.
 ghost use mathlib.Core.Path.{_≡_};
 ghost use Rattle.parts.specs.declared.Sensor.the-variants.{Missing, Raw};
 ghost use Rattle.promises.specs.Valid.{Valid};
@@ -7,21 +7,18 @@ ghost use Rattle.promises.specs.Calls.{answered};
 ghost use Rattle.promises.specs.Promised.{PowersUp, Receives, Ticks, Samples, Slots};
 ghost use Rattle.lent.specs.Questions.{stateCode, isGood, positionOf, anyWaits};
 ghost use Rattle.lent.specs.Steps.{sentAs};
-use can::Frame;
 use can::Received;
-use entries::Identity;
-use head::steps;
+use nmt::entry;
 use parts::Head;
+use parts::Setup;
+use server::effect;
+use steps::hear;
+use steps::slot;
+use steps::slot::Outgoing;
+use steps::tick;
+use tpdo::sync;
 
-mod idle;
 mod question;
-
-// The frame to send, if one waited; it is all 0 otherwise, and not to be sent.
-#[repr(C)]
-pub struct Due {
-    pub waited: bool,
-    pub frame: Frame,
-}
 
 // A position, if there is one; it is 0 otherwise, and no position.
 #[repr(C)]
@@ -32,10 +29,10 @@ pub struct Located {
 
 // The memory may hold anything before: it is not read. A refused node number leaves a head too, of node 1 with identity numbers 0.
 #[no_mangle]
-pub extern "C" fn haybleater_power_up(head: &mut Head, node: u8, identity: Identity) -> u8
-    ensures { λ n. ⌜ PowersUp node identity (answered n (now (head .exit))) ⌝ }
+pub extern "C" fn haybleater_power_up(head: &mut Head, setup: Setup) -> u8
+    ensures { λ n. ⌜ PowersUp (setup .node) (setup .identity) (answered n (now (head .exit))) ⌝ }
 {
-    let answer = head::power_up(node, identity);
+    let answer = head::power_up(setup);
     *head = answer.head;
     answer.refusal
 }
@@ -45,12 +42,97 @@ pub extern "C" fn haybleater_receive(head: &mut Head, frame: Received) -> u8
     requires { ⌜ Valid (now head) ⌝ }
     ensures { λ n. ⌜ Receives (now (head .entry)) frame (answered n (now (head .exit))) ⌝ }
 {
-    if head::passes(*head, frame) {
-        return can::refusal(frame);
+    let heard = hear::hear(head.core.nmt, head.core.device, head.line, frame);
+    match heard.way {
+        hear::REPLIES => {
+            let left = effect::reply(head.line, heard.reply);
+            head.core.reply = left.reply;
+            head.line = left.line;
+        }
+        hear::SYNCS => {
+            let left = sync::sync(
+                head.core.nmt,
+                head.core.device.settings.communication,
+                head.core.timers,
+                head.core.device.reading.good,
+                head.line,
+            );
+            head.core.timers = left.timers;
+            head.line = left.line;
+        }
+        hear::CONFIGURES => {
+            let left = effect::configure(
+                head.core.nmt,
+                head.core.device.settings.communication,
+                head.core.timers,
+                head.core.device.reading.good,
+                head.core.announced,
+                head.line,
+                heard.reply,
+                heard.key,
+                heard.value,
+            );
+            head.core.device.settings.communication = left.communication;
+            head.core.timers = left.timers;
+            head.core.reply = left.reply;
+            head.line = left.line;
+        }
+        hear::SCALES => {
+            let left = effect::scale(
+                head.core.device.settings.profile,
+                head.core.device.reading.raw,
+                head.line,
+                heard.reply,
+                heard.key,
+                heard.value,
+            );
+            head.core.device.settings.profile = left.profile;
+            head.core.reply = left.reply;
+            head.line = left.line;
+        }
+        hear::ENTERS => {
+            let left = entry::enter(
+                head.core.nmt,
+                head.core.device.settings.communication,
+                head.core.timers,
+                head.core.device.reading.good,
+                head.core.announced,
+                head.line,
+                heard.state,
+            );
+            head.core.nmt = left.nmt;
+            head.core.timers = left.timers;
+            head.line = left.line;
+        }
+        hear::RESETS => {
+            let left = entry::restart(head.core.device.settings, head.core.device.saved, heard.all);
+            head.core.device.settings = left.settings;
+            head.core.nmt = left.nmt;
+            head.core.announced = left.announced;
+            head.core.timers = left.timers;
+            head.line = left.line;
+        }
+        hear::SAVES => {
+            let left = effect::save(
+                head.core.device.node,
+                head.core.device.settings,
+                head.line,
+                heard.reply,
+                heard.key,
+            );
+            head.core.device.saved = left.saved;
+            head.core.reply = left.reply;
+            head.line = left.line;
+        }
+        hear::EMPTIES => {
+            let left = effect::empty(head.line, heard.reply);
+            head.core.device.errors = left.errors;
+            head.core.reply = left.reply;
+            head.line = left.line;
+        }
+        _ => {}
     }
-    let answer = head::receive(*head, frame);
-    *head = answer.head;
-    answer.refusal
+    heard.refusal
 }
 
 #[no_mangle]
@@ -58,16 +140,29 @@ pub extern "C" fn haybleater_tick(head: &mut Head)
     requires { ⌜ Valid (now head) ⌝ }
     ensures { λ _. ⌜ Ticks (now (head .entry)) (now (head .exit)) ⌝ }
 {
-    let timed = steps::tick(
+    let ticked = tick::tick(
         head.core.nmt,
         head.core.device.settings.communication,
         head.core.timers,
         head.core.device.reading.good,
         head.core.announced,
-        head.line,
     );
-    head.core.timers = timed.timers;
-    head.line = timed.line;
+    head.core.timers = ticked.timers;
+    match ticked.way {
+        tick::SETTLES => {
+            let left = settling::joined(
+                head.line,
+                head.core.nmt,
+                head.core.device.settings.communication,
+                head.core.timers.inhibit,
+                head.core.device.reading.good,
+                head.core.announced,
+                ticked.due,
+            );
+            head.line = left;
+        }
+        _ => {}
+    }
 }
 
 #[no_mangle]
@@ -75,12 +170,18 @@ pub extern "C" fn haybleater_sample(head: &mut Head, raw: u32) -> u8
     requires { ⌜ Valid (now head) ⌝ }
     ensures { λ n. ⌜ Samples (now (head .entry)) (Raw raw) (answered n (now (head .exit))) ⌝ }
 {
-    if idle::beyond(*head, raw) {
-        return idle::refused(raw);
-    }
-    let answer = head::read(*head, raw);
-    *head = answer.head;
-    answer.refusal
+    let left = samples::raw(
+        head.core.nmt,
+        head.core.device.settings.communication.emergency,
+        head.core.timers.inhibit,
+        head.core.device.reading,
+        head.core.announced,
+        head.line,
+        raw,
+    );
+    head.core.device.reading = left.reading;
+    head.line = left.line;
+    left.refusal
 }
 
 #[no_mangle]
@@ -88,23 +189,59 @@ pub extern "C" fn haybleater_missing(head: &mut Head)
     requires { ⌜ Valid (now head) ⌝ }
     ensures { λ _. ⌜ Samples (now (head .entry)) Missing (answered 0 (now (head .exit))) ⌝ }
 {
-    *head = head::missing(*head);
+    let left = samples::missing(
+        head.core.nmt,
+        head.core.device.settings.communication,
+        head.core.timers.inhibit,
+        head.core.device.reading.good,
+        head.core.device.errors,
+        head.core.announced,
+        head.line,
+    );
+    head.core.device.reading = left.reading;
+    head.core.device.errors = left.errors;
+    head.line = left.line;
 }
 
 #[no_mangle]
-pub extern "C" fn haybleater_slot(head: &mut Head) -> Due
+pub extern "C" fn haybleater_slot(head: &mut Head) -> Outgoing
     requires { ⌜ Valid (now head) ⌝ }
-    ensures { λ d. ⌜ Slots (now (head .entry)) (sentAs d (now (head .exit))) ⌝ }
+    ensures { λ o. ⌜ Slots (now (head .entry)) (sentAs o (now (head .exit))) ⌝ }
 {
-    if idle::empty(*head) {
-        return idle::none();
+    let slotted = slot::slot(
+        head.core.device.node,
+        head.core.nmt,
+        head.core.device.settings,
+        head.core.device.reading,
+        head.core.reply,
+        head.line,
+    );
+    match slotted.way {
+        slot::BOOTS => {
+            let left = slot::boot(
+                head.core.device.settings.communication.emergency,
+                head.core.device.reading.good,
+            );
+            head.core.nmt = left.nmt;
+            head.line = left.line;
+        }
+        slot::ANNOUNCES => {
+            let left = slot::announce(
+                head.core.device.settings.communication.inhibit,
+                head.core.device.reading.good,
+                head.line,
+            );
+            head.core.announced = left.announced;
+            head.core.timers.inhibit = left.inhibit;
+            head.line = left.line;
+        }
+        slot::SENDS => {
+            let left = slot::take(head.line);
+            head.line = left.line;
+        }
+        _ => {}
     }
-    let sent = head::slot(*head);
-    *head = sent.head;
-    Due {
-        waited: sent.waited,
-        frame: sent.frame,
-    }
+    slotted.outgoing
 }
 
 #[no_mangle]

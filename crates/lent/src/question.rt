@@ -4,7 +4,11 @@ ghost use Rattle.promises.specs.Valid.{Valid};
 ghost use Rattle.lent.specs.Questions.{stateCode, isGood, positionOf, anyWaits};
 use crate::Located;
 use parts::Head;
-use services::state;
+use waiting::EMERGENCY;
+use waiting::HEARTBEAT;
+use waiting::SDO_REPLY;
+use waiting::TPDO1;
+use waiting::TPDO2;
 
 pub fn state(head: Head) -> u8
     ensures { λ r. ⌜ r ≡ stateCode head ⌝ }
@@ -43,5 +47,10 @@ pub fn waits(head: Head) -> bool
     let state = head.core.nmt;
     let line = head.line;
     let kind = waiting::first(line);
-    state::is_initialising(state) | (kind != waiting::EMPTY)
+    let waits = (kind == EMERGENCY)
+        | (kind == SDO_REPLY)
+        | (kind == HEARTBEAT)
+        | (kind == TPDO1)
+        | (kind == TPDO2);
+    states::is_initialising(state) | waits
 }

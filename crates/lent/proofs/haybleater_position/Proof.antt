@@ -3,8 +3,8 @@ use Rattle.promises.specs.Valid.{Valid}
 use Rattle.lent.specs.Questions.{positionOf}
 use Rattle.lent.proofs.question.position.Symbol as callee
 use Rattle.lent.proofs.question.position.Met as callee-thm
-use Rattle.lent.proofs.Thin.{one}
-use Rattle.lent.proofs.Look0.{look}
+use Rattle.lending.proofs.Clauses.{one}
+use Rattle.lending.proofs.Look.{look}
 use Rattle.lent.proofs.Rows.{lent-head, head-row, located-row}
 use Rattle.lent.proofs.haybleater_position.Key.{name as #self}
 use Rattle.lent.proofs.haybleater_position.Statement.{statement}

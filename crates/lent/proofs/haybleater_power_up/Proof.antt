@@ -1,11 +1,18 @@
+use mathlib.Core.List.{[], _∷_}
 use mir.Syntax.{w8}
 use Rattle.promises.specs.Calls.{answered}
 use Rattle.promises.specs.Promised.{PowersUp}
-use Rattle.head.proofs.power_up.Symbol as callee
-use Rattle.head.proofs.power_up.Met as callee-thm
-use Rattle.lent.proofs.Thin.{none, one, uint-row}
-use Rattle.lent.proofs.Fill2.{fill}
-use Rattle.lent.proofs.Rows.{lent-head, head-row, identity-row, answer-row, answer}
+use Rattle.head.proofs.power_up.Symbol as power-up
+use Rattle.head.proofs.power_up.Met as power-up-thm
+use Rattle.lending.proofs.Rows.{uint-row}
+use Rattle.lending.proofs.Clauses.{none, one}
+use Rattle.lending.proofs.Parts.{whole, all-of, _▸_}
+use Rattle.lending.proofs.Known.{entry, here}
+use Rattle.lending.proofs.Handed.{known}
+use Rattle.lending.proofs.Body.{step, stop, store}
+use Rattle.lending.proofs.Lent.{answers, lent}
+use Rattle.lent.proofs.Rows.{lent-head, head-row, answer-row, setup-row}
+use Rattle.lent.proofs.Results.{answer-refusal, answer-head}
 use Rattle.lent.proofs.haybleater_power_up.Key.{name as #self}
 use Rattle.lent.proofs.haybleater_power_up.Statement.{statement}
 use Rattle.lent.proofs.haybleater_power_up.Code as code
@@ -13,7 +20,10 @@ use Rattle.lent.proofs.haybleater_power_up.Code as code
 pub haybleater-power-up-spec : {M : Type 1} → statement M
 unfolding code.routine
 haybleater-power-up-spec 𝓤 H 𝓜 𝓖 𝓡 =
-    fill answer-row (uint-row w8) head-row (uint-row w8) identity-row answer lent-head callee.name
-    (λ n i. none) (λ n i. none) (λ n i z. one (PowersUp n i z)) (λ n i r h′. one (PowersUp n i (answered r h′)))
-    (λ n i ok. ok) (λ n i z ok e. e)
-    𝓤 H 𝓜 𝓖 𝓡 code.env #self (code.unfolded 𝓤 H 𝓜 𝓡) callee.routine code.calls-head·power-up (callee-thm.met 𝓤 H 𝓜 𝓖 𝓡)
+    lent (uint-row w8) head-row lent-head (entry setup-row ∷ [])
+    (step power-up.name answer-row (known (here whole) ∷ []) (λ a. none) (λ a z. one (PowersUp (a .0 .node) (a .0 .identity) z)))
+    (store (here (answer-head ▸ whole)) (all-of .into) stop)
+    (answers (here (answer-refusal ▸ whole)))
+    (λ h xs. none) (λ h xs n h′. one (PowersUp (xs .0 .node) (xs .0 .identity) (answered n h′)))
+    (λ h xs _. (tt, λ z e. e))
+    𝓤 H 𝓜 𝓖 𝓡 code.env #self (code.unfolded 𝓤 H 𝓜 𝓡) ((power-up.routine, code.calls-head·power-up, power-up-thm.met 𝓤 H 𝓜 𝓖 𝓡), tt)

@@ -3,8 +3,9 @@ use mir.Syntax.{w8}
 use Rattle.lent.specs.Questions.{stateCode}
 use Rattle.lent.proofs.question.state.Symbol as callee
 use Rattle.lent.proofs.question.state.Met as callee-thm
-use Rattle.lent.proofs.Thin.{none, one, uint-row}
-use Rattle.lent.proofs.Look0.{look}
+use Rattle.lending.proofs.Clauses.{none, one}
+use Rattle.lending.proofs.Rows.{uint-row}
+use Rattle.lending.proofs.Look.{look}
 use Rattle.lent.proofs.Rows.{lent-head, head-row}
 use Rattle.lent.proofs.haybleater_state.Key.{name as #self}
 use Rattle.lent.proofs.haybleater_state.Statement.{statement}

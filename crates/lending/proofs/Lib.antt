@@ -1,0 +1,11 @@
+pub mod Rows
+pub mod Clauses
+pub mod Parts
+pub mod Fields
+pub mod Locals
+pub mod Known
+pub mod Handed
+pub mod Body
+pub mod Walk
+pub mod Lent
+pub mod Look

@@ -1,0 +1,1 @@
+//! Laws about functions that are lent a plain struct; no code.
