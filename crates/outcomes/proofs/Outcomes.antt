@@ -5,7 +5,7 @@ use Rattle.parts.specs.declared.Head.{Head}
 use Rattle.parts.specs.declared.Answer.{Answer}
 use Rattle.parts.specs.declared.Sent.{Sent}
 use Rattle.promises.specs.Calls.{answered}
-use Rattle.lent.specs.declared.Due.{Due}
+use Rattle.steps.specs.declared.slot.Outgoing.{Outgoing}
 use Rattle.lent.specs.Steps.{sentAs}
 use Rattle.outcomes.specs.Outcomes.{Outcomes}
 
@@ -17,7 +17,7 @@ same x y l p q = λ i. ((p ∙ sym q) i, l i)
 answered-alike : {C : Type 0} {due : Answer} (x y : ℕ × (Head × C)) → x .1 .1 ≡ y .1 .1 → answered (x .0) (x .1 .0) ≡ due → answered (y .0) (y .1 .0) ≡ due → x ≡ y
 answered-alike x y l p q = λ i. ((p ∙ sym q) i .refusal, ((p ∙ sym q) i .head, l i))
 
-sent-alike : {C : Type 0} {due : Sent} (x y : Due × (Head × C)) → x .1 .1 ≡ y .1 .1 → sentAs (x .0) (x .1 .0) ≡ due → sentAs (y .0) (y .1 .0) ≡ due → x ≡ y
+sent-alike : {C : Type 0} {due : Sent} (x y : Outgoing × (Head × C)) → x .1 .1 ≡ y .1 .1 → sentAs (x .0) (x .1 .0) ≡ due → sentAs (y .0) (y .1 .0) ≡ due → x ≡ y
 sent-alike x y l p q = λ i. (record { waited = (p ∙ sym q) i .waited; frame = (p ∙ sym q) i .frame }, ((p ∙ sym q) i .head, l i))
 
 left-alike : {A C : Type 0} {due : Head} (x y : A × (Head × C)) → x .0 ≡ y .0 → x .1 .1 ≡ y .1 .1 → x .1 .0 ≡ due → y .1 .0 ≡ due → x ≡ y
@@ -39,6 +39,8 @@ outcomes =
       waiting·taken = λ κs a x y. same x y refl;
       waiting·join-if = λ κs a x y. same x y refl;
       waiting·withdraw-if = λ κs a x y. same x y refl;
+      waiting·join-those = λ κs a x y. same x y refl;
+      waiting·withdraw-those = λ κs a x y. same x y refl;
       position·scaling = λ κs a x y. same x y refl;
       position·inverted = λ κs a x y. same x y refl;
       position·directed-of = λ κs a x y. same x y refl;
@@ -49,52 +51,67 @@ outcomes =
       entries·table·row-at = λ κs a x y. same x y refl;
       entries·table·key = λ κs a x y. same x y refl;
       entries·table·key-of = λ κs a x y. same x y refl;
-      dictionary·accept·refusal = λ κs a x y. same x y refl;
-      dictionary·accept·value-refusal = λ κs a x y. same x y refl;
-      dictionary·accept·is-on = λ κs a x y. same x y refl;
-      dictionary·read·read = λ κs a x y. same x y refl;
-      dictionary·write·write = λ κs a x y. same x y refl;
-      sdo·reply·none = λ κs a x y. same x y refl;
-      sdo·reply·abort = λ κs a x y. same x y refl;
-      sdo·reply·confirm = λ κs a x y. same x y refl;
-      sdo·reply·shown = λ κs a x y. same x y refl;
-      sdo·request·is-abort = λ κs a x y. same x y refl;
-      sdo·request·taken-apart = λ κs a x y. same x y refl;
-      sdo·serve = λ κs a x y. same x y refl;
-      services·state·is-initialising = λ κs a x y. same x y refl;
-      services·state·is-operational = λ κs a x y. same x y refl;
-      services·state·is-live = λ κs a x y. same x y refl;
-      services·state·same = λ κs a x y. same x y refl;
-      services·emergency·may = λ κs a x y. same x y refl;
-      services·emergency·bytes = λ κs a x y. same x y refl;
-      services·emergency·announced = λ κs a x y. same x y refl;
-      services·emergency·inhibited = λ κs a x y. same x y refl;
-      services·heartbeat·may = λ κs a x y. same x y refl;
-      services·tpdo·is-synchronous = λ κs a x y. same x y refl;
-      services·tpdo·may = λ κs a x y. same x y refl;
-      services·tpdo·uncounted = λ κs a x y. same x y refl;
-      services·tpdo·event-due = λ κs a x y. same x y refl;
-      services·tpdo·sync-due = λ κs a x y. same x y refl;
-      services·tpdo·ticked = λ κs a x y. same x y refl;
-      services·tpdo·synced = λ κs a x y. same x y refl;
-      services·tpdo·written = λ κs a x y. same x y refl;
-      services·time·counted = λ κs a x y. same x y refl;
-      services·time·completes = λ κs a x y. same x y refl;
-      services·time·restarted = λ κs a x y. same x y refl;
-      services·time·ticked = λ κs a x y. same x y refl;
-      services·time·at-rest = λ κs a x y. same x y refl;
-      services·time·due = λ κs a x y. same x y refl;
-      services·settle·emergency-only = λ κs a x y. same x y refl;
-      services·settle·settled = λ κs a x y. same x y refl;
-      services·settle·joined = λ κs a x y. same x y refl;
-      services·settle·rings = λ κs a x y. same x y refl;
+      acceptance·abort-code = λ κs a x y. same x y refl;
+      acceptance·value-abort-code = λ κs a x y. same x y refl;
+      acceptance·is-on = λ κs a x y. same x y refl;
+      values·read = λ κs a x y. same x y refl;
+      writes·write = λ κs a x y. same x y refl;
+      writes·communication-after = λ κs a x y. same x y refl;
+      writes·profile-after = λ κs a x y. same x y refl;
+      replies·no-reply = λ κs a x y. same x y refl;
+      replies·abort = λ κs a x y. same x y refl;
+      replies·confirm = λ κs a x y. same x y refl;
+      replies·shown = λ κs a x y. same x y refl;
+      requests·is-abort = λ κs a x y. same x y refl;
+      requests·taken-apart = λ κs a x y. same x y refl;
+      serving·serve = λ κs a x y. same x y refl;
+      states·is-initialising = λ κs a x y. same x y refl;
+      states·is-operational = λ κs a x y. same x y refl;
+      states·is-live = λ κs a x y. same x y refl;
+      states·same = λ κs a x y. same x y refl;
+      counting·counted = λ κs a x y. same x y refl;
+      counting·restarted = λ κs a x y. same x y refl;
+      emergency·may-wait = λ κs a x y. same x y refl;
+      emergency·frame = λ κs a x y. same x y refl;
+      emergency·inhibit-ticks = λ κs a x y. same x y refl;
+      emergency·ticked = λ κs a x y. same x y refl;
+      heartbeat·may-wait = λ κs a x y. same x y refl;
+      heartbeat·ticked = λ κs a x y. same x y refl;
+      heartbeat·frame = λ κs a x y. same x y refl;
+      tpdo·is-synchronous = λ κs a x y. same x y refl;
+      tpdo·may-join = λ κs a x y. same x y refl;
+      tpdo·uncounted = λ κs a x y. same x y refl;
+      tpdo·ticked = λ κs a x y. same x y refl;
+      tpdo·synced = λ κs a x y. same x y refl;
+      tpdo·written = λ κs a x y. same x y refl;
+      tpdo·frame = λ κs a x y. same x y refl;
+      tpdo·sync·sync = λ κs a x y. same x y refl;
+      settling·joined = λ κs a x y. same x y refl;
+      nmt·ordered = λ κs a x y. same x y refl;
+      nmt·entry·enter = λ κs a x y. same x y refl;
+      nmt·entry·restart = λ κs a x y. same x y refl;
+      nmt·entry·at-rest = λ κs a x y. same x y refl;
+      server·serves = λ κs a x y. same x y refl;
+      server·frame = λ κs a x y. same x y refl;
+      server·effect·reply = λ κs a x y. same x y refl;
+      server·effect·empty = λ κs a x y. same x y refl;
+      server·effect·save = λ κs a x y. same x y refl;
+      server·effect·scale = λ κs a x y. same x y refl;
+      server·effect·configure = λ κs a x y. same x y refl;
+      samples·raw = λ κs a x y. same x y refl;
+      samples·missing = λ κs a x y. same x y refl;
+      steps·hear·hear = λ κs a x y. same x y refl;
+      steps·slot·slot = λ κs a x y. same x y refl;
+      steps·slot·boot = λ κs a x y. same x y refl;
+      steps·slot·announce = λ κs a x y. same x y refl;
+      steps·slot·take = λ κs a x y. same x y refl;
+      steps·tick·tick = λ κs a x y. same x y refl;
       head·power-up = λ κs a x y p q. same x y refl (p .0) (q .0);
       head·receive = λ κs a x y p q. same x y refl (p .0) (q .0);
-      head·passes = λ κs a x y. same x y refl;
       head·tick = λ κs a x y p q. same x y refl (p .0) (q .0);
       head·sample = λ κs a x y p q. same x y refl (p .0) (q .0);
-      head·missing = λ κs a x y p q. same x y refl (ap (λ (r : Answer). r .head) (p .0)) (ap (λ (r : Answer). r .head) (q .0));
-      head·read = λ κs a x y p q. same x y refl (p .0) (q .0);
+      head·sample-missing = λ κs a x y p q. same x y refl (ap (λ (r : Answer). r .head) (p .0)) (ap (λ (r : Answer). r .head) (q .0));
+      head·sample-raw = λ κs a x y p q. same x y refl (p .0) (q .0);
       head·slot = λ κs a x y p q. same x y refl (p .0) (q .0);
       lent·haybleater-power-up = (λ κs a x y p q. answered-alike x y refl (p .0) (q .0), λ M 𝓤 H A m f κs a g r e. refl);
       lent·haybleater-receive = (λ κs a x y p q. answered-alike x y refl (p .0) (q .0), λ M 𝓤 H A m f κs a g r e. refl);
@@ -106,18 +123,20 @@ outcomes =
       lent·haybleater-good = (λ κs a x y p q. same x y refl p q, λ M 𝓤 H A m f κs a g r e. refl);
       lent·haybleater-position = (λ κs a x y p q. same x y refl p q, λ M 𝓤 H A m f κs a g r e. refl);
       lent·haybleater-waits = (λ κs a x y p q. same x y refl p q, λ M 𝓤 H A m f κs a g r e. refl);
-      text·line·empty = λ κs a x y. same x y refl;
-      text·line·kept = λ κs a x y. same x y refl;
-      text·line·at-most = λ κs a x y. same x y refl;
-      text·line·push = λ κs a x y. same x y refl;
-      text·print·frame = λ κs a x y. same x y refl;
-      text·print·none = λ κs a x y. same x y refl;
-      text·print·refusal = λ κs a x y. same x y refl;
-      text·parse-line = λ κs a x y. same x y refl;
-      text·parse = λ κs a x y. same x y refl;
-      transcript·start = λ κs a x y p q. same x y refl (p .0) (q .0);
-      transcript·answer = λ κs a x y p q. same x y refl (p .0) (q .0);
-      transcript·feed = λ κs a x y p q. same x y refl (p .0) (q .0);
-      transcript·chunk = λ κs a x y p q. same x y (λ i. (tt, (tt, ((p .1 ∙ sym (q .1)) i, tt)))) (p .0) (q .0);
-      transcript·close = λ κs a x y. same x y refl;
+      lines·empty = λ κs a x y. same x y refl;
+      lines·kept = λ κs a x y. same x y refl;
+      lines·at-most = λ κs a x y. same x y refl;
+      lines·push = λ κs a x y. same x y refl;
+      numbers·read = λ κs a x y. same x y refl;
+      parsing·parse-line = λ κs a x y. same x y refl;
+      parsing·parse = λ κs a x y. same x y refl;
+      printing·frame = λ κs a x y. same x y refl;
+      printing·none = λ κs a x y. same x y refl;
+      printing·refusal = λ κs a x y. same x y refl;
+      commands·obey = λ κs a x y. same x y refl;
+      feeding·start = λ κs a x y p q. same x y refl (p .0) (q .0);
+      feeding·answer = λ κs a x y p q. same x y refl (p .0) (q .0);
+      feeding·feed = λ κs a x y p q. same x y refl (p .0) (q .0);
+      feeding·chunk = λ κs a x y p q. same x y (λ i. (tt, (tt, ((p .1 ∙ sym (q .1)) i, tt)))) (p .0) (q .0);
+      feeding·close = λ κs a x y. same x y refl;
     }

@@ -15,13 +15,30 @@ use Rattle.can.proofs as can
 use Rattle.waiting.proofs as waiting
 use Rattle.position.proofs as position
 use Rattle.entries.proofs as entries
-use Rattle.dictionary.proofs as dictionary
-use Rattle.sdo.proofs as sdo
-use Rattle.services.proofs as services
+use Rattle.acceptance.proofs as acceptance
+use Rattle.values.proofs as values
+use Rattle.writes.proofs as writes
+use Rattle.requests.proofs as requests
+use Rattle.replies.proofs as replies
+use Rattle.serving.proofs as serving
+use Rattle.states.proofs as states
+use Rattle.counting.proofs as counting
+use Rattle.emergency.proofs as emergency
+use Rattle.heartbeat.proofs as heartbeat
+use Rattle.tpdo.proofs as tpdo
+use Rattle.settling.proofs as settling
+use Rattle.nmt.proofs as nmt
+use Rattle.server.proofs as server
+use Rattle.samples.proofs as samples
+use Rattle.steps.proofs as steps
 use Rattle.head.proofs as head
 use Rattle.lent.proofs as lent
-use Rattle.text.proofs as text
-use Rattle.transcript.proofs as transcript
+use Rattle.lines.proofs as lines
+use Rattle.numbers.proofs as numbers
+use Rattle.parsing.proofs as parsing
+use Rattle.printing.proofs as printing
+use Rattle.commands.proofs as commands
+use Rattle.feeding.proofs as feeding
 use Rattle.outcomes.specs.Outcome.{AsksNothing, AsksOnly, AsksNothingOf, AsksOnlyOf}
 
 pub record Asked : Type 2 where
@@ -38,6 +55,8 @@ pub record Asked : Type 2 where
   pub waiting·taken : AsksOnly waiting.taken.ended (λ κs a. Holds places (a .0) (waitingIn (a .0))) waiting.taken.Reads.Asked
   pub waiting·join-if : AsksNothing waiting.join_if.ended waiting.join_if.Reads.Asked
   pub waiting·withdraw-if : AsksNothing waiting.withdraw_if.ended waiting.withdraw_if.Reads.Asked
+  pub waiting·join-those : AsksNothing waiting.join_those.ended waiting.join_those.Reads.Asked
+  pub waiting·withdraw-those : AsksNothing waiting.withdraw_those.ended waiting.withdraw_those.Reads.Asked
   pub position·scaling : AsksNothing position.scaling.ended position.scaling.Reads.Asked
   pub position·inverted : AsksNothing position.inverted.ended position.inverted.Reads.Asked
   pub position·directed-of : AsksOnly position.directed_of.ended (λ κs a. ValidProfile (a .0)) position.directed_of.Reads.Asked
@@ -48,53 +67,68 @@ pub record Asked : Type 2 where
   pub entries·table·row-at : AsksOnly entries.table.row_at.ended (λ κs a. a .0 < length table) entries.table.row_at.Reads.Asked
   pub entries·table·key : AsksNothing entries.table.key.ended entries.table.key.Reads.Asked
   pub entries·table·key-of : AsksNothing entries.table.key_of.ended entries.table.key_of.Reads.Asked
-  pub dictionary·accept·refusal : AsksNothing dictionary.accept.refusal.ended dictionary.accept.refusal.Reads.Asked
-  pub dictionary·accept·value-refusal : AsksNothing dictionary.accept.value_refusal.ended dictionary.accept.value_refusal.Reads.Asked
-  pub dictionary·accept·is-on : AsksNothing dictionary.accept.is_on.ended dictionary.accept.is_on.Reads.Asked
-  pub dictionary·read·read : AsksOnly dictionary.read.read.ended (λ κs a. (a .1 .1 .0 < length table) × (ValidProfile (a .0 .settings .profile))) dictionary.read.read.Reads.Asked
-  pub dictionary·write·write : AsksOnly dictionary.write.write.ended (λ κs a. (ValidProfile (a .0 .settings .profile)) × (Fits (a .0 .settings .profile) (a .1 .0) (a .1 .1 .0))) dictionary.write.write.Reads.Asked
-  pub sdo·reply·none : AsksNothing sdo.reply.none.ended sdo.reply.none.Reads.Asked
-  pub sdo·reply·abort : AsksNothing sdo.reply.abort.ended sdo.reply.abort.Reads.Asked
-  pub sdo·reply·confirm : AsksNothing sdo.reply.confirm.ended sdo.reply.confirm.Reads.Asked
-  pub sdo·reply·shown : AsksNothing sdo.reply.shown.ended sdo.reply.shown.Reads.Asked
-  pub sdo·request·is-abort : AsksNothing sdo.request.is_abort.ended sdo.request.is_abort.Reads.Asked
-  pub sdo·request·taken-apart : AsksNothing sdo.request.taken_apart.ended sdo.request.taken_apart.Reads.Asked
-  pub sdo·serve : AsksOnly sdo.serve.ended (λ κs a. ValidProfile (a .0 .settings .profile)) sdo.serve.Reads.Asked
-  pub services·state·is-initialising : AsksNothing services.state.is_initialising.ended services.state.is_initialising.Reads.Asked
-  pub services·state·is-operational : AsksNothing services.state.is_operational.ended services.state.is_operational.Reads.Asked
-  pub services·state·is-live : AsksNothing services.state.is_live.ended services.state.is_live.Reads.Asked
-  pub services·state·same : AsksNothing services.state.same.ended services.state.same.Reads.Asked
-  pub services·emergency·may : AsksNothing services.emergency.may.ended services.emergency.may.Reads.Asked
-  pub services·emergency·bytes : AsksNothing services.emergency.bytes.ended services.emergency.bytes.Reads.Asked
-  pub services·emergency·announced : AsksNothing services.emergency.announced.ended services.emergency.announced.Reads.Asked
-  pub services·emergency·inhibited : AsksOnly services.emergency.inhibited.ended (λ κs a. a .1 .0 ≤ 0xFFFF) services.emergency.inhibited.Reads.Asked
-  pub services·heartbeat·may : AsksNothing services.heartbeat.may.ended services.heartbeat.may.Reads.Asked
-  pub services·tpdo·is-synchronous : AsksNothing services.tpdo.is_synchronous.ended services.tpdo.is_synchronous.Reads.Asked
-  pub services·tpdo·may : AsksNothing services.tpdo.may.ended services.tpdo.may.Reads.Asked
-  pub services·tpdo·uncounted : AsksNothing services.tpdo.uncounted.ended services.tpdo.uncounted.Reads.Asked
-  pub services·tpdo·event-due : AsksNothing services.tpdo.event_due.ended services.tpdo.event_due.Reads.Asked
-  pub services·tpdo·sync-due : AsksNothing services.tpdo.sync_due.ended services.tpdo.sync_due.Reads.Asked
-  pub services·tpdo·ticked : AsksNothing services.tpdo.ticked.ended services.tpdo.ticked.Reads.Asked
-  pub services·tpdo·synced : AsksNothing services.tpdo.synced.ended services.tpdo.synced.Reads.Asked
-  pub services·tpdo·written : AsksNothing services.tpdo.written.ended services.tpdo.written.Reads.Asked
-  pub services·time·counted : AsksNothing services.time.counted.ended services.time.counted.Reads.Asked
-  pub services·time·completes : AsksNothing services.time.completes.ended services.time.completes.Reads.Asked
-  pub services·time·restarted : AsksNothing services.time.restarted.ended services.time.restarted.Reads.Asked
-  pub services·time·ticked : AsksNothing services.time.ticked.ended services.time.ticked.Reads.Asked
-  pub services·time·at-rest : AsksNothing services.time.at_rest.ended services.time.at_rest.Reads.Asked
-  pub services·time·due : AsksNothing services.time.due.ended services.time.due.Reads.Asked
-  pub services·settle·emergency-only : AsksNothing services.settle.emergency_only.ended services.settle.emergency_only.Reads.Asked
-  pub services·settle·settled : AsksNothing services.settle.settled.ended services.settle.settled.Reads.Asked
-  pub services·settle·joined : AsksNothing services.settle.joined.ended services.settle.joined.Reads.Asked
-  pub services·settle·rings : AsksNothing services.settle.rings.ended services.settle.rings.Reads.Asked
+  pub acceptance·abort-code : AsksNothing acceptance.abort_code.ended acceptance.abort_code.Reads.Asked
+  pub acceptance·value-abort-code : AsksNothing acceptance.value_abort_code.ended acceptance.value_abort_code.Reads.Asked
+  pub acceptance·is-on : AsksNothing acceptance.is_on.ended acceptance.is_on.Reads.Asked
+  pub values·read : AsksOnly values.read.ended (λ κs a. (a .1 .1 .0 < length table) × (ValidProfile (a .0 .settings .profile))) values.read.Reads.Asked
+  pub writes·write : AsksOnly writes.write.ended (λ κs a. (ValidProfile (a .0 .settings .profile)) × (Fits (a .0 .settings .profile) (a .1 .0) (a .1 .1 .0))) writes.write.Reads.Asked
+  pub writes·communication-after : AsksNothing writes.communication_after.ended writes.communication_after.Reads.Asked
+  pub writes·profile-after : AsksOnly writes.profile_after.ended (λ κs a. (ValidProfile (a .0)) × (Fits (a .0) (a .1 .1 .0) (a .1 .1 .1 .0))) writes.profile_after.Reads.Asked
+  pub replies·no-reply : AsksNothing replies.no_reply.ended replies.no_reply.Reads.Asked
+  pub replies·abort : AsksNothing replies.abort.ended replies.abort.Reads.Asked
+  pub replies·confirm : AsksNothing replies.confirm.ended replies.confirm.Reads.Asked
+  pub replies·shown : AsksNothing replies.shown.ended replies.shown.Reads.Asked
+  pub requests·is-abort : AsksNothing requests.is_abort.ended requests.is_abort.Reads.Asked
+  pub requests·taken-apart : AsksNothing requests.taken_apart.ended requests.taken_apart.Reads.Asked
+  pub serving·serve : AsksOnly serving.serve.ended (λ κs a. ValidProfile (a .0 .settings .profile)) serving.serve.Reads.Asked
+  pub states·is-initialising : AsksNothing states.is_initialising.ended states.is_initialising.Reads.Asked
+  pub states·is-operational : AsksNothing states.is_operational.ended states.is_operational.Reads.Asked
+  pub states·is-live : AsksNothing states.is_live.ended states.is_live.Reads.Asked
+  pub states·same : AsksNothing states.same.ended states.same.Reads.Asked
+  pub counting·counted : AsksNothing counting.counted.ended counting.counted.Reads.Asked
+  pub counting·restarted : AsksNothing counting.restarted.ended counting.restarted.Reads.Asked
+  pub emergency·may-wait : AsksNothing emergency.may_wait.ended emergency.may_wait.Reads.Asked
+  pub emergency·frame : AsksNothing emergency.frame.ended emergency.frame.Reads.Asked
+  pub emergency·inhibit-ticks : AsksOnly emergency.inhibit_ticks.ended (λ κs a. a .0 ≤ 0xFFFF) emergency.inhibit_ticks.Reads.Asked
+  pub emergency·ticked : AsksNothing emergency.ticked.ended emergency.ticked.Reads.Asked
+  pub heartbeat·may-wait : AsksNothing heartbeat.may_wait.ended heartbeat.may_wait.Reads.Asked
+  pub heartbeat·ticked : AsksNothing heartbeat.ticked.ended heartbeat.ticked.Reads.Asked
+  pub heartbeat·frame : AsksNothing heartbeat.frame.ended heartbeat.frame.Reads.Asked
+  pub tpdo·is-synchronous : AsksNothing tpdo.is_synchronous.ended tpdo.is_synchronous.Reads.Asked
+  pub tpdo·may-join : AsksNothing tpdo.may_join.ended tpdo.may_join.Reads.Asked
+  pub tpdo·uncounted : AsksNothing tpdo.uncounted.ended tpdo.uncounted.Reads.Asked
+  pub tpdo·ticked : AsksNothing tpdo.ticked.ended tpdo.ticked.Reads.Asked
+  pub tpdo·synced : AsksNothing tpdo.synced.ended tpdo.synced.Reads.Asked
+  pub tpdo·written : AsksNothing tpdo.written.ended tpdo.written.Reads.Asked
+  pub tpdo·frame : AsksOnly tpdo.frame.ended (λ κs a. ValidProfile (a .1 .0)) tpdo.frame.Reads.Asked
+  pub tpdo·sync·sync : AsksNothing tpdo.sync.sync.ended tpdo.sync.sync.Reads.Asked
+  pub settling·joined : AsksNothing settling.joined.ended settling.joined.Reads.Asked
+  pub nmt·ordered : AsksNothing nmt.ordered.ended nmt.ordered.Reads.Asked
+  pub nmt·entry·enter : AsksNothing nmt.entry.enter.ended nmt.entry.enter.Reads.Asked
+  pub nmt·entry·restart : AsksNothing nmt.entry.restart.ended nmt.entry.restart.Reads.Asked
+  pub nmt·entry·at-rest : AsksNothing nmt.entry.at_rest.ended nmt.entry.at_rest.Reads.Asked
+  pub server·serves : AsksNothing server.serves.ended server.serves.Reads.Asked
+  pub server·frame : AsksNothing server.frame.ended server.frame.Reads.Asked
+  pub server·effect·reply : AsksNothing server.effect.reply.ended server.effect.reply.Reads.Asked
+  pub server·effect·empty : AsksNothing server.effect.empty.ended server.effect.empty.Reads.Asked
+  pub server·effect·save : AsksNothing server.effect.save.ended server.effect.save.Reads.Asked
+  pub server·effect·scale : AsksOnly server.effect.scale.ended (λ κs a. (ValidProfile (a .0)) × (Fits (a .0) (a .1 .1 .1 .1 .0) (a .1 .1 .1 .1 .1 .0))) server.effect.scale.Reads.Asked
+  pub server·effect·configure : AsksNothing server.effect.configure.ended server.effect.configure.Reads.Asked
+  pub samples·raw : AsksNothing samples.raw.ended samples.raw.Reads.Asked
+  pub samples·missing : AsksNothing samples.missing.ended samples.missing.Reads.Asked
+  pub steps·hear·hear : AsksOnly steps.hear.hear.ended (λ κs a. ValidProfile (a .1 .0 .settings .profile)) steps.hear.hear.Reads.Asked
+  pub steps·slot·slot : AsksOnly steps.slot.slot.ended (λ κs a. ValidProfile (a .1 .1 .0 .profile)) steps.slot.slot.Reads.Asked
+  pub steps·slot·boot : AsksNothing steps.slot.boot.ended steps.slot.boot.Reads.Asked
+  pub steps·slot·announce : AsksOnly steps.slot.announce.ended (λ κs a. (a .0 ≤ 0xFFFF) × (Holds places (a .1 .1 .0) (waitingIn (a .1 .1 .0)))) steps.slot.announce.Reads.Asked
+  pub steps·slot·take : AsksOnly steps.slot.take.ended (λ κs a. Holds places (a .0) (waitingIn (a .0))) steps.slot.take.Reads.Asked
+  pub steps·tick·tick : AsksNothing steps.tick.tick.ended steps.tick.tick.Reads.Asked
   pub head·power-up : AsksNothing head.power_up.ended head.power_up.Reads.Asked
   -- Every head comes from power-up and is altered by calls only; the promises are for such heads.
   pub head·receive : AsksOnly head.receive.ended (λ κs a. Reachable (a .0)) head.receive.Reads.Asked
-  pub head·passes : AsksNothing head.passes.ended head.passes.Reads.Asked
   pub head·tick : AsksOnly head.tick.ended (λ κs a. Reachable (a .0)) head.tick.Reads.Asked
   pub head·sample : AsksOnly head.sample.ended (λ κs a. Reachable (a .0)) head.sample.Reads.Asked
-  pub head·missing : AsksOnly head.missing.ended (λ κs a. Reachable (a .0)) head.missing.Reads.Asked
-  pub head·read : AsksOnly head.read.ended (λ κs a. Reachable (a .0)) head.read.Reads.Asked
+  pub head·sample-missing : AsksOnly head.sample_missing.ended (λ κs a. Reachable (a .0)) head.sample_missing.Reads.Asked
+  pub head·sample-raw : AsksOnly head.sample_raw.ended (λ κs a. Reachable (a .0)) head.sample_raw.Reads.Asked
   pub head·slot : AsksOnly head.slot.ended (λ κs a. Reachable (a .0)) head.slot.Reads.Asked
   pub lent·haybleater-power-up : AsksNothingOf lent.haybleater_power_up.ended (λ M. lent.haybleater_power_up.clauses {M = M})
   pub lent·haybleater-receive : AsksOnlyOf lent.haybleater_receive.ended (λ κs a. Reachable (now (a .0))) (λ κs a. Valid (now (a .0))) (λ M. lent.haybleater_receive.clauses {M = M})
@@ -106,18 +140,20 @@ pub record Asked : Type 2 where
   pub lent·haybleater-good : AsksNothingOf lent.haybleater_good.ended (λ M. lent.haybleater_good.clauses {M = M})
   pub lent·haybleater-position : AsksOnlyOf lent.haybleater_position.ended (λ κs a. Reachable (now (a .0))) (λ κs a. Valid (now (a .0))) (λ M. lent.haybleater_position.clauses {M = M})
   pub lent·haybleater-waits : AsksNothingOf lent.haybleater_waits.ended (λ M. lent.haybleater_waits.clauses {M = M})
-  pub text·line·empty : AsksNothing text.line.empty.ended text.line.empty.Reads.Asked
-  pub text·line·kept : AsksNothing text.line.kept.ended text.line.kept.Reads.Asked
-  pub text·line·at-most : AsksNothing text.line.at_most.ended text.line.at_most.Reads.Asked
-  pub text·line·push : AsksNothing text.line.push.ended text.line.push.Reads.Asked
-  pub text·print·frame : AsksNothing text.print.frame.ended text.print.frame.Reads.Asked
-  pub text·print·none : AsksNothing text.print.none.ended text.print.none.Reads.Asked
-  pub text·print·refusal : AsksNothing text.print.refusal.ended text.print.refusal.Reads.Asked
-  pub text·parse-line : AsksNothing text.parse_line.ended text.parse_line.Reads.Asked
-  pub text·parse : AsksNothing text.parse.ended text.parse.Reads.Asked
-  pub transcript·start : AsksNothing transcript.start.ended transcript.start.Reads.Asked
-  pub transcript·answer : AsksOnly transcript.answer.ended (λ κs a. Reachable (a .0)) transcript.answer.Reads.Asked
-  pub transcript·feed : AsksOnly transcript.feed.ended (λ κs a. Reachable (a .0 .head)) transcript.feed.Reads.Asked
+  pub lines·empty : AsksNothing lines.empty.ended lines.empty.Reads.Asked
+  pub lines·kept : AsksNothing lines.kept.ended lines.kept.Reads.Asked
+  pub lines·at-most : AsksNothing lines.at_most.ended lines.at_most.Reads.Asked
+  pub lines·push : AsksNothing lines.push.ended lines.push.Reads.Asked
+  pub numbers·read : AsksOnly numbers.read.ended (λ κs a. (a .1 .1 .0 ≤ 16) × (a .1 .1 .1 .0 ≤ 10)) numbers.read.Reads.Asked
+  pub parsing·parse-line : AsksNothing parsing.parse_line.ended parsing.parse_line.Reads.Asked
+  pub parsing·parse : AsksNothing parsing.parse.ended parsing.parse.Reads.Asked
+  pub printing·frame : AsksNothing printing.frame.ended printing.frame.Reads.Asked
+  pub printing·none : AsksNothing printing.none.ended printing.none.Reads.Asked
+  pub printing·refusal : AsksNothing printing.refusal.ended printing.refusal.Reads.Asked
+  pub commands·obey : AsksOnly commands.obey.ended (λ κs a. Reachable (a .0)) commands.obey.Reads.Asked
+  pub feeding·start : AsksNothing feeding.start.ended feeding.start.Reads.Asked
+  pub feeding·answer : AsksOnly feeding.answer.ended (λ κs a. Reachable (a .0)) feeding.answer.Reads.Asked
+  pub feeding·feed : AsksOnly feeding.feed.ended (λ κs a. Reachable (a .0 .head)) feeding.feed.Reads.Asked
   -- a line prints at most 64 bytes: room for so many for each byte of input
-  pub transcript·chunk : AsksOnly transcript.chunk.ended (λ κs a. (Reachable (a .0 .head)) × (longest * length (now (a .1 .0)) ≤ length (now (a .1 .1 .0)))) transcript.chunk.Reads.Asked
-  pub transcript·close : AsksOnly transcript.close.ended (λ κs a. Reachable (a .0 .head)) transcript.close.Reads.Asked
+  pub feeding·chunk : AsksOnly feeding.chunk.ended (λ κs a. (Reachable (a .0 .head)) × (longest * length (now (a .1 .0)) ≤ length (now (a .1 .1 .0)))) feeding.chunk.Reads.Asked
+  pub feeding·close : AsksOnly feeding.close.ended (λ κs a. Reachable (a .0 .head)) feeding.close.Reads.Asked

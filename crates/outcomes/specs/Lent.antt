@@ -9,7 +9,7 @@ use Rattle.parts.specs.declared.Sensor.{Sensor}
 use Rattle.promises.specs.Calls.{answered}
 use Rattle.promises.specs.Promised.{PowersUp, Receives, Ticks, Samples, Slots}
 use Rattle.promises.specs.Histories.{Reachable}
-use Rattle.lent.specs.declared.Due.{Due}
+use Rattle.steps.specs.declared.slot.Outgoing.{Outgoing}
 use Rattle.lent.specs.Steps.{sentAs}
 
 pub record Lent : Type 0 where
@@ -17,4 +17,4 @@ pub record Lent : Type 0 where
   pub receives : (f : Received) (r : ℕ) (h h′ : Head) → Reachable h → Receives h f (answered r h′) → Reachable h′
   pub ticks : (h h′ : Head) → Reachable h → Ticks h h′ → Reachable h′
   pub samples : (s : Sensor) (r : ℕ) (h h′ : Head) → Reachable h → Samples h s (answered r h′) → Reachable h′
-  pub slots : (d : Due) (h h′ : Head) → Reachable h → Slots h (sentAs d h′) → Reachable h′
+  pub slots : (o : Outgoing) (h h′ : Head) → Reachable h → Slots h (sentAs o h′) → Reachable h′

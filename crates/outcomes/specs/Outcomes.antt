@@ -11,13 +11,30 @@ use Rattle.can.proofs as can
 use Rattle.waiting.proofs as waiting
 use Rattle.position.proofs as position
 use Rattle.entries.proofs as entries
-use Rattle.dictionary.proofs as dictionary
-use Rattle.sdo.proofs as sdo
-use Rattle.services.proofs as services
+use Rattle.acceptance.proofs as acceptance
+use Rattle.values.proofs as values
+use Rattle.writes.proofs as writes
+use Rattle.requests.proofs as requests
+use Rattle.replies.proofs as replies
+use Rattle.serving.proofs as serving
+use Rattle.states.proofs as states
+use Rattle.counting.proofs as counting
+use Rattle.emergency.proofs as emergency
+use Rattle.heartbeat.proofs as heartbeat
+use Rattle.tpdo.proofs as tpdo
+use Rattle.settling.proofs as settling
+use Rattle.nmt.proofs as nmt
+use Rattle.server.proofs as server
+use Rattle.samples.proofs as samples
+use Rattle.steps.proofs as steps
 use Rattle.head.proofs as head
 use Rattle.lent.proofs as lent
-use Rattle.text.proofs as text
-use Rattle.transcript.proofs as transcript
+use Rattle.lines.proofs as lines
+use Rattle.numbers.proofs as numbers
+use Rattle.parsing.proofs as parsing
+use Rattle.printing.proofs as printing
+use Rattle.commands.proofs as commands
+use Rattle.feeding.proofs as feeding
 use Rattle.outcomes.specs.Outcome.{OneOutcome, OneOutcomeOf}
 
 pub record Outcomes : Type 2 where
@@ -34,6 +51,8 @@ pub record Outcomes : Type 2 where
   pub waiting·taken : OneOutcome waiting.taken.ended waiting.taken.Reads.Learnt
   pub waiting·join-if : OneOutcome waiting.join_if.ended waiting.join_if.Reads.Learnt
   pub waiting·withdraw-if : OneOutcome waiting.withdraw_if.ended waiting.withdraw_if.Reads.Learnt
+  pub waiting·join-those : OneOutcome waiting.join_those.ended waiting.join_those.Reads.Learnt
+  pub waiting·withdraw-those : OneOutcome waiting.withdraw_those.ended waiting.withdraw_those.Reads.Learnt
   pub position·scaling : OneOutcome position.scaling.ended position.scaling.Reads.Learnt
   pub position·inverted : OneOutcome position.inverted.ended position.inverted.Reads.Learnt
   pub position·directed-of : OneOutcome position.directed_of.ended position.directed_of.Reads.Learnt
@@ -44,54 +63,69 @@ pub record Outcomes : Type 2 where
   pub entries·table·row-at : OneOutcome entries.table.row_at.ended entries.table.row_at.Reads.Learnt
   pub entries·table·key : OneOutcome entries.table.key.ended entries.table.key.Reads.Learnt
   pub entries·table·key-of : OneOutcome entries.table.key_of.ended entries.table.key_of.Reads.Learnt
-  pub dictionary·accept·refusal : OneOutcome dictionary.accept.refusal.ended dictionary.accept.refusal.Reads.Learnt
-  pub dictionary·accept·value-refusal : OneOutcome dictionary.accept.value_refusal.ended dictionary.accept.value_refusal.Reads.Learnt
-  pub dictionary·accept·is-on : OneOutcome dictionary.accept.is_on.ended dictionary.accept.is_on.Reads.Learnt
-  pub dictionary·read·read : OneOutcome dictionary.read.read.ended dictionary.read.read.Reads.Learnt
-  pub dictionary·write·write : OneOutcome dictionary.write.write.ended dictionary.write.write.Reads.Learnt
-  pub sdo·reply·none : OneOutcome sdo.reply.none.ended sdo.reply.none.Reads.Learnt
-  pub sdo·reply·abort : OneOutcome sdo.reply.abort.ended sdo.reply.abort.Reads.Learnt
-  pub sdo·reply·confirm : OneOutcome sdo.reply.confirm.ended sdo.reply.confirm.Reads.Learnt
-  pub sdo·reply·shown : OneOutcome sdo.reply.shown.ended sdo.reply.shown.Reads.Learnt
-  pub sdo·request·is-abort : OneOutcome sdo.request.is_abort.ended sdo.request.is_abort.Reads.Learnt
-  pub sdo·request·taken-apart : OneOutcome sdo.request.taken_apart.ended sdo.request.taken_apart.Reads.Learnt
-  pub sdo·serve : OneOutcome sdo.serve.ended sdo.serve.Reads.Learnt
-  pub services·state·is-initialising : OneOutcome services.state.is_initialising.ended services.state.is_initialising.Reads.Learnt
-  pub services·state·is-operational : OneOutcome services.state.is_operational.ended services.state.is_operational.Reads.Learnt
-  pub services·state·is-live : OneOutcome services.state.is_live.ended services.state.is_live.Reads.Learnt
-  pub services·state·same : OneOutcome services.state.same.ended services.state.same.Reads.Learnt
-  pub services·emergency·may : OneOutcome services.emergency.may.ended services.emergency.may.Reads.Learnt
-  pub services·emergency·bytes : OneOutcome services.emergency.bytes.ended services.emergency.bytes.Reads.Learnt
-  pub services·emergency·announced : OneOutcome services.emergency.announced.ended services.emergency.announced.Reads.Learnt
-  pub services·emergency·inhibited : OneOutcome services.emergency.inhibited.ended services.emergency.inhibited.Reads.Learnt
-  pub services·heartbeat·may : OneOutcome services.heartbeat.may.ended services.heartbeat.may.Reads.Learnt
-  pub services·tpdo·is-synchronous : OneOutcome services.tpdo.is_synchronous.ended services.tpdo.is_synchronous.Reads.Learnt
-  pub services·tpdo·may : OneOutcome services.tpdo.may.ended services.tpdo.may.Reads.Learnt
-  pub services·tpdo·uncounted : OneOutcome services.tpdo.uncounted.ended services.tpdo.uncounted.Reads.Learnt
-  pub services·tpdo·event-due : OneOutcome services.tpdo.event_due.ended services.tpdo.event_due.Reads.Learnt
-  pub services·tpdo·sync-due : OneOutcome services.tpdo.sync_due.ended services.tpdo.sync_due.Reads.Learnt
-  pub services·tpdo·ticked : OneOutcome services.tpdo.ticked.ended services.tpdo.ticked.Reads.Learnt
-  pub services·tpdo·synced : OneOutcome services.tpdo.synced.ended services.tpdo.synced.Reads.Learnt
-  pub services·tpdo·written : OneOutcome services.tpdo.written.ended services.tpdo.written.Reads.Learnt
-  pub services·time·counted : OneOutcome services.time.counted.ended services.time.counted.Reads.Learnt
-  pub services·time·completes : OneOutcome services.time.completes.ended services.time.completes.Reads.Learnt
-  pub services·time·restarted : OneOutcome services.time.restarted.ended services.time.restarted.Reads.Learnt
-  pub services·time·ticked : OneOutcome services.time.ticked.ended services.time.ticked.Reads.Learnt
-  pub services·time·at-rest : OneOutcome services.time.at_rest.ended services.time.at_rest.Reads.Learnt
-  pub services·time·due : OneOutcome services.time.due.ended services.time.due.Reads.Learnt
-  pub services·settle·emergency-only : OneOutcome services.settle.emergency_only.ended services.settle.emergency_only.Reads.Learnt
-  pub services·settle·settled : OneOutcome services.settle.settled.ended services.settle.settled.Reads.Learnt
-  pub services·settle·joined : OneOutcome services.settle.joined.ended services.settle.joined.Reads.Learnt
-  pub services·settle·rings : OneOutcome services.settle.rings.ended services.settle.rings.Reads.Learnt
+  pub acceptance·abort-code : OneOutcome acceptance.abort_code.ended acceptance.abort_code.Reads.Learnt
+  pub acceptance·value-abort-code : OneOutcome acceptance.value_abort_code.ended acceptance.value_abort_code.Reads.Learnt
+  pub acceptance·is-on : OneOutcome acceptance.is_on.ended acceptance.is_on.Reads.Learnt
+  pub values·read : OneOutcome values.read.ended values.read.Reads.Learnt
+  pub writes·write : OneOutcome writes.write.ended writes.write.Reads.Learnt
+  pub writes·communication-after : OneOutcome writes.communication_after.ended writes.communication_after.Reads.Learnt
+  pub writes·profile-after : OneOutcome writes.profile_after.ended writes.profile_after.Reads.Learnt
+  pub replies·no-reply : OneOutcome replies.no_reply.ended replies.no_reply.Reads.Learnt
+  pub replies·abort : OneOutcome replies.abort.ended replies.abort.Reads.Learnt
+  pub replies·confirm : OneOutcome replies.confirm.ended replies.confirm.Reads.Learnt
+  pub replies·shown : OneOutcome replies.shown.ended replies.shown.Reads.Learnt
+  pub requests·is-abort : OneOutcome requests.is_abort.ended requests.is_abort.Reads.Learnt
+  pub requests·taken-apart : OneOutcome requests.taken_apart.ended requests.taken_apart.Reads.Learnt
+  pub serving·serve : OneOutcome serving.serve.ended serving.serve.Reads.Learnt
+  pub states·is-initialising : OneOutcome states.is_initialising.ended states.is_initialising.Reads.Learnt
+  pub states·is-operational : OneOutcome states.is_operational.ended states.is_operational.Reads.Learnt
+  pub states·is-live : OneOutcome states.is_live.ended states.is_live.Reads.Learnt
+  pub states·same : OneOutcome states.same.ended states.same.Reads.Learnt
+  pub counting·counted : OneOutcome counting.counted.ended counting.counted.Reads.Learnt
+  pub counting·restarted : OneOutcome counting.restarted.ended counting.restarted.Reads.Learnt
+  pub emergency·may-wait : OneOutcome emergency.may_wait.ended emergency.may_wait.Reads.Learnt
+  pub emergency·frame : OneOutcome emergency.frame.ended emergency.frame.Reads.Learnt
+  pub emergency·inhibit-ticks : OneOutcome emergency.inhibit_ticks.ended emergency.inhibit_ticks.Reads.Learnt
+  pub emergency·ticked : OneOutcome emergency.ticked.ended emergency.ticked.Reads.Learnt
+  pub heartbeat·may-wait : OneOutcome heartbeat.may_wait.ended heartbeat.may_wait.Reads.Learnt
+  pub heartbeat·ticked : OneOutcome heartbeat.ticked.ended heartbeat.ticked.Reads.Learnt
+  pub heartbeat·frame : OneOutcome heartbeat.frame.ended heartbeat.frame.Reads.Learnt
+  pub tpdo·is-synchronous : OneOutcome tpdo.is_synchronous.ended tpdo.is_synchronous.Reads.Learnt
+  pub tpdo·may-join : OneOutcome tpdo.may_join.ended tpdo.may_join.Reads.Learnt
+  pub tpdo·uncounted : OneOutcome tpdo.uncounted.ended tpdo.uncounted.Reads.Learnt
+  pub tpdo·ticked : OneOutcome tpdo.ticked.ended tpdo.ticked.Reads.Learnt
+  pub tpdo·synced : OneOutcome tpdo.synced.ended tpdo.synced.Reads.Learnt
+  pub tpdo·written : OneOutcome tpdo.written.ended tpdo.written.Reads.Learnt
+  pub tpdo·frame : OneOutcome tpdo.frame.ended tpdo.frame.Reads.Learnt
+  pub tpdo·sync·sync : OneOutcome tpdo.sync.sync.ended tpdo.sync.sync.Reads.Learnt
+  pub settling·joined : OneOutcome settling.joined.ended settling.joined.Reads.Learnt
+  pub nmt·ordered : OneOutcome nmt.ordered.ended nmt.ordered.Reads.Learnt
+  pub nmt·entry·enter : OneOutcome nmt.entry.enter.ended nmt.entry.enter.Reads.Learnt
+  pub nmt·entry·restart : OneOutcome nmt.entry.restart.ended nmt.entry.restart.Reads.Learnt
+  pub nmt·entry·at-rest : OneOutcome nmt.entry.at_rest.ended nmt.entry.at_rest.Reads.Learnt
+  pub server·serves : OneOutcome server.serves.ended server.serves.Reads.Learnt
+  pub server·frame : OneOutcome server.frame.ended server.frame.Reads.Learnt
+  pub server·effect·reply : OneOutcome server.effect.reply.ended server.effect.reply.Reads.Learnt
+  pub server·effect·empty : OneOutcome server.effect.empty.ended server.effect.empty.Reads.Learnt
+  pub server·effect·save : OneOutcome server.effect.save.ended server.effect.save.Reads.Learnt
+  pub server·effect·scale : OneOutcome server.effect.scale.ended server.effect.scale.Reads.Learnt
+  pub server·effect·configure : OneOutcome server.effect.configure.ended server.effect.configure.Reads.Learnt
+  pub samples·raw : OneOutcome samples.raw.ended samples.raw.Reads.Learnt
+  pub samples·missing : OneOutcome samples.missing.ended samples.missing.Reads.Learnt
+  pub steps·hear·hear : OneOutcome steps.hear.hear.ended steps.hear.hear.Reads.Learnt
+  pub steps·slot·slot : OneOutcome steps.slot.slot.ended steps.slot.slot.Reads.Learnt
+  pub steps·slot·boot : OneOutcome steps.slot.boot.ended steps.slot.boot.Reads.Learnt
+  pub steps·slot·announce : OneOutcome steps.slot.announce.ended steps.slot.announce.Reads.Learnt
+  pub steps·slot·take : OneOutcome steps.slot.take.ended steps.slot.take.Reads.Learnt
+  pub steps·tick·tick : OneOutcome steps.tick.tick.ended steps.tick.tick.Reads.Learnt
   pub head·power-up : OneOutcome head.power_up.ended head.power_up.Reads.Learnt
   pub head·receive : OneOutcome head.receive.ended head.receive.Reads.Learnt
-  pub head·passes : OneOutcome head.passes.ended head.passes.Reads.Learnt
   pub head·tick : OneOutcome head.tick.ended head.tick.Reads.Learnt
   pub head·sample : OneOutcome head.sample.ended head.sample.Reads.Learnt
-  pub head·missing : OneOutcome head.missing.ended head.missing.Reads.Learnt
-  pub head·read : OneOutcome head.read.ended head.read.Reads.Learnt
+  pub head·sample-missing : OneOutcome head.sample_missing.ended head.sample_missing.Reads.Learnt
+  pub head·sample-raw : OneOutcome head.sample_raw.ended head.sample_raw.Reads.Learnt
   pub head·slot : OneOutcome head.slot.ended head.slot.Reads.Learnt
-  pub lent·haybleater-power-up : OneOutcomeOf lent.haybleater_power_up.ended (λ κs a r e. PowersUp (a .1 .0) (a .1 .1 .0) (answered r (now (e .0)))) (λ M. lent.haybleater_power_up.clauses {M = M})
+  pub lent·haybleater-power-up : OneOutcomeOf lent.haybleater_power_up.ended (λ κs a r e. PowersUp (a .1 .0 .node) (a .1 .0 .identity) (answered r (now (e .0)))) (λ M. lent.haybleater_power_up.clauses {M = M})
   pub lent·haybleater-receive : OneOutcomeOf lent.haybleater_receive.ended (λ κs a r e. Receives (now (a .0)) (a .1 .0) (answered r (now (e .0)))) (λ M. lent.haybleater_receive.clauses {M = M})
   pub lent·haybleater-tick : OneOutcomeOf lent.haybleater_tick.ended (λ κs a r e. Ticks (now (a .0)) (now (e .0))) (λ M. lent.haybleater_tick.clauses {M = M})
   pub lent·haybleater-sample : OneOutcomeOf lent.haybleater_sample.ended (λ κs a r e. Samples (now (a .0)) (Raw (a .1 .0)) (answered r (now (e .0)))) (λ M. lent.haybleater_sample.clauses {M = M})
@@ -101,17 +135,19 @@ pub record Outcomes : Type 2 where
   pub lent·haybleater-good : OneOutcomeOf lent.haybleater_good.ended (λ κs a r e. r ≡ isGood (now (a .0))) (λ M. lent.haybleater_good.clauses {M = M})
   pub lent·haybleater-position : OneOutcomeOf lent.haybleater_position.ended (λ κs a r e. r ≡ positionOf (now (a .0))) (λ M. lent.haybleater_position.clauses {M = M})
   pub lent·haybleater-waits : OneOutcomeOf lent.haybleater_waits.ended (λ κs a r e. r ≡ anyWaits (now (a .0))) (λ M. lent.haybleater_waits.clauses {M = M})
-  pub text·line·empty : OneOutcome text.line.empty.ended text.line.empty.Reads.Learnt
-  pub text·line·kept : OneOutcome text.line.kept.ended text.line.kept.Reads.Learnt
-  pub text·line·at-most : OneOutcome text.line.at_most.ended text.line.at_most.Reads.Learnt
-  pub text·line·push : OneOutcome text.line.push.ended text.line.push.Reads.Learnt
-  pub text·print·frame : OneOutcome text.print.frame.ended text.print.frame.Reads.Learnt
-  pub text·print·none : OneOutcome text.print.none.ended text.print.none.Reads.Learnt
-  pub text·print·refusal : OneOutcome text.print.refusal.ended text.print.refusal.Reads.Learnt
-  pub text·parse-line : OneOutcome text.parse_line.ended text.parse_line.Reads.Learnt
-  pub text·parse : OneOutcome text.parse.ended text.parse.Reads.Learnt
-  pub transcript·start : OneOutcome transcript.start.ended transcript.start.Reads.Learnt
-  pub transcript·answer : OneOutcome transcript.answer.ended transcript.answer.Reads.Learnt
-  pub transcript·feed : OneOutcome transcript.feed.ended transcript.feed.Reads.Learnt
-  pub transcript·chunk : OneOutcome transcript.chunk.ended transcript.chunk.Reads.Learnt
-  pub transcript·close : OneOutcome transcript.close.ended transcript.close.Reads.Learnt
+  pub lines·empty : OneOutcome lines.empty.ended lines.empty.Reads.Learnt
+  pub lines·kept : OneOutcome lines.kept.ended lines.kept.Reads.Learnt
+  pub lines·at-most : OneOutcome lines.at_most.ended lines.at_most.Reads.Learnt
+  pub lines·push : OneOutcome lines.push.ended lines.push.Reads.Learnt
+  pub numbers·read : OneOutcome numbers.read.ended numbers.read.Reads.Learnt
+  pub parsing·parse-line : OneOutcome parsing.parse_line.ended parsing.parse_line.Reads.Learnt
+  pub parsing·parse : OneOutcome parsing.parse.ended parsing.parse.Reads.Learnt
+  pub printing·frame : OneOutcome printing.frame.ended printing.frame.Reads.Learnt
+  pub printing·none : OneOutcome printing.none.ended printing.none.Reads.Learnt
+  pub printing·refusal : OneOutcome printing.refusal.ended printing.refusal.Reads.Learnt
+  pub commands·obey : OneOutcome commands.obey.ended commands.obey.Reads.Learnt
+  pub feeding·start : OneOutcome feeding.start.ended feeding.start.Reads.Learnt
+  pub feeding·answer : OneOutcome feeding.answer.ended feeding.answer.Reads.Learnt
+  pub feeding·feed : OneOutcome feeding.feed.ended feeding.feed.Reads.Learnt
+  pub feeding·chunk : OneOutcome feeding.chunk.ended feeding.chunk.Reads.Learnt
+  pub feeding·close : OneOutcome feeding.close.ended feeding.close.Reads.Learnt
