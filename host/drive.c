@@ -46,7 +46,7 @@ static uint8_t power_up(const uint8_t *call)
                                     .product = number_at(call + 8),
                                     .revision = number_at(call + 12),
                                     .serial = number_at(call + 16)};
-    return haybleater_power_up(&present, call[1], identity);
+    return haybleater_power_up(&present, (haybleater_setup){.node = call[1], .identity = identity});
 }
 
 static uint8_t receive(const uint8_t *call)
@@ -61,11 +61,11 @@ static uint8_t receive(const uint8_t *call)
 
 static void slot(uint8_t *answer)
 {
-    haybleater_due due = haybleater_slot(&present);
-    answer[0] = due.waited;
-    answer[1] = due.frame.length;
-    put_number(answer + 4, due.frame.identifier);
-    memcpy(answer + 8, due.frame.bytes, sizeof due.frame.bytes);
+    haybleater_outgoing outgoing = haybleater_slot(&present);
+    answer[0] = outgoing.waited;
+    answer[1] = outgoing.frame.length;
+    put_number(answer + 4, outgoing.frame.identifier);
+    memcpy(answer + 8, outgoing.frame.bytes, sizeof outgoing.frame.bytes);
 }
 
 static void do_call(const uint8_t *call, uint8_t *answer)
@@ -112,7 +112,7 @@ int main(void)
     static uint8_t calls[RECORDS * RECORD], answers[RECORDS * RECORD];
     size_t held = 0;
     ssize_t got;
-    haybleater_power_up(&present, 1, (haybleater_identity){.vendor = 0});
+    haybleater_power_up(&present, (haybleater_setup){.node = 1});
     kept = present;
     while ((got = read(STDIN_FILENO, calls + held, sizeof calls - held)) > 0) {
         held += (size_t)got;

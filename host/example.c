@@ -64,15 +64,15 @@ static void receive_all(haybleater_head *head, uint32_t now_ms)
 /* A CAN controller that can always take a frame; one that cannot is asked first, and the frame waits in the head. */
 static void send_all(haybleater_head *head, uint32_t now_ms)
 {
-    for (haybleater_due due = haybleater_slot(head); due.waited; due = haybleater_slot(head))
-        show(now_ms, due.frame);
+    for (haybleater_outgoing outgoing = haybleater_slot(head); outgoing.waited; outgoing = haybleater_slot(head))
+        show(now_ms, outgoing.frame);
 }
 
 int main(void)
 {
     static haybleater_head head;
-    const haybleater_identity identity = {.vendor = 1, .product = 2, .revision = 3, .serial = 4};
-    if (haybleater_power_up(&head, 1, identity) != HAYBLEATER_NO_REFUSAL)
+    const haybleater_setup setup = {.node = 1, .identity = {.vendor = 1, .product = 2, .revision = 3, .serial = 4}};
+    if (haybleater_power_up(&head, setup) != HAYBLEATER_NO_REFUSAL)
         return 1;
     printf("  0  -- power-up\n");
     for (uint32_t now_ms = 0; now_ms < END_MS; now_ms++) {

@@ -61,13 +61,19 @@ typedef struct {
     uint32_t serial;
 } haybleater_identity;
 
+/* What a head is made with. */
+typedef struct {
+    uint8_t node; /* 1..127 */
+    haybleater_identity identity;
+} haybleater_setup;
+
 /* A frame as the CAN controller received it. Bytes from `length` on are ignored. */
 typedef struct {
+    uint8_t bytes[8];
     uint32_t identifier;
     bool extended; /* the identifier has 29 bits and not 11 */
     bool remote;   /* a remote frame and not a data frame */
     uint8_t length;
-    uint8_t bytes[8];
 } haybleater_received;
 
 /* A frame to send: a data frame with an 11-bit identifier. Bytes from `length` on are 0. */
@@ -81,7 +87,7 @@ typedef struct {
 typedef struct {
     bool waited;
     haybleater_frame frame;
-} haybleater_due;
+} haybleater_outgoing;
 
 /* A position, if there is one; it is 0 otherwise, and no position. */
 typedef struct {
@@ -94,7 +100,7 @@ typedef struct {
  * frame waiting. The memory may hold anything before: it is not read.
  * Refuses a node number not 1..127 with HAYBLEATER_BAD_NODE; a head is made all the same, of node 1 with identity numbers 0.
  */
-uint8_t haybleater_power_up(haybleater_head *head, uint8_t node, haybleater_identity identity);
+uint8_t haybleater_power_up(haybleater_head *head, haybleater_setup setup);
 
 /*
  * A frame was received. Refuses with HAYBLEATER_BAD_IDENTIFIER or HAYBLEATER_BAD_LENGTH, in every state, what no bus can
@@ -117,7 +123,7 @@ uint8_t haybleater_sample(haybleater_head *head, uint32_t raw);
 void haybleater_missing(haybleater_head *head);
 
 /* A frame can be sent: answers the first that waits and takes it from the waiting line, or none exactly if none waits. */
-haybleater_due haybleater_slot(haybleater_head *head);
+haybleater_outgoing haybleater_slot(haybleater_head *head);
 
 /* The NMT state, one of the four codes above. */
 uint8_t haybleater_state(const haybleater_head *head);
@@ -159,21 +165,25 @@ HAYBLEATER_CHECK_FIELD(identity, product, 4);
 HAYBLEATER_CHECK_FIELD(identity, revision, 8);
 HAYBLEATER_CHECK_FIELD(identity, serial, 12);
 
+HAYBLEATER_CHECK_SHAPE(setup, 20, 4);
+HAYBLEATER_CHECK_FIELD(setup, node, 0);
+HAYBLEATER_CHECK_FIELD(setup, identity, 4);
+
 HAYBLEATER_CHECK_SHAPE(received, 16, 4);
-HAYBLEATER_CHECK_FIELD(received, identifier, 0);
-HAYBLEATER_CHECK_FIELD(received, extended, 4);
-HAYBLEATER_CHECK_FIELD(received, remote, 5);
-HAYBLEATER_CHECK_FIELD(received, length, 6);
-HAYBLEATER_CHECK_FIELD(received, bytes, 7);
+HAYBLEATER_CHECK_FIELD(received, bytes, 0);
+HAYBLEATER_CHECK_FIELD(received, identifier, 8);
+HAYBLEATER_CHECK_FIELD(received, extended, 12);
+HAYBLEATER_CHECK_FIELD(received, remote, 13);
+HAYBLEATER_CHECK_FIELD(received, length, 14);
 
 HAYBLEATER_CHECK_SHAPE(frame, 16, 4);
 HAYBLEATER_CHECK_FIELD(frame, identifier, 0);
 HAYBLEATER_CHECK_FIELD(frame, length, 4);
 HAYBLEATER_CHECK_FIELD(frame, bytes, 5);
 
-HAYBLEATER_CHECK_SHAPE(due, 20, 4);
-HAYBLEATER_CHECK_FIELD(due, waited, 0);
-HAYBLEATER_CHECK_FIELD(due, frame, 4);
+HAYBLEATER_CHECK_SHAPE(outgoing, 20, 4);
+HAYBLEATER_CHECK_FIELD(outgoing, waited, 0);
+HAYBLEATER_CHECK_FIELD(outgoing, frame, 4);
 
 HAYBLEATER_CHECK_SHAPE(located, 8, 4);
 HAYBLEATER_CHECK_FIELD(located, known, 0);

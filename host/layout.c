@@ -24,7 +24,7 @@ static const haybleater_identity identity = {
 /* The bytes of a head that power-up need not write: padding. It writes all others. */
 static const struct {
     size_t from, to;
-} padding[] = {{1, 4}, {21, 24}, {146, 148}, {185, 188}};
+} padding[] = {{5, 8}, {10, 12}, {45, 48}, {65, 68}};
 
 #define READ_VENDOR {0x40, 0x18, 0x10, 1}
 #define REQUEST(...) {.identifier = 0x605, .length = 8, .bytes = {__VA_ARGS__}}
@@ -37,7 +37,7 @@ static const struct {
     const char *what;
     haybleater_received hears;
     uint8_t refusal;
-    haybleater_due due;
+    haybleater_outgoing outgoing;
 } rows[] = {
     {"identity.vendor", REQUEST(0x40, 0x18, 0x10, 1), 0, REPLY(0x43, 0x18, 0x10, 1, 0x14, 0x13, 0x12, 0x11)},
     {"identity.product", REQUEST(0x40, 0x18, 0x10, 2), 0, REPLY(0x43, 0x18, 0x10, 2, 0x24, 0x23, 0x22, 0x21)},
@@ -81,13 +81,13 @@ static void expect_refusal(uint8_t got, uint8_t refusal, const char *when)
     expect_canaries(when);
 }
 
-static void expect_slot(haybleater_due due, const char *when)
+static void expect_slot(haybleater_outgoing outgoing, const char *when)
 {
-    haybleater_due got = haybleater_slot(&memory.head);
-    expect(got.waited == due.waited, "due.waited", when);
-    expect(got.frame.identifier == due.frame.identifier, "frame.identifier", when);
-    expect(got.frame.length == due.frame.length, "frame.length", when);
-    expect(memcmp(got.frame.bytes, due.frame.bytes, sizeof due.frame.bytes) == 0, "frame.bytes", when);
+    haybleater_outgoing got = haybleater_slot(&memory.head);
+    expect(got.waited == outgoing.waited, "outgoing.waited", when);
+    expect(got.frame.identifier == outgoing.frame.identifier, "frame.identifier", when);
+    expect(got.frame.length == outgoing.frame.length, "frame.length", when);
+    expect(memcmp(got.frame.bytes, outgoing.frame.bytes, sizeof outgoing.frame.bytes) == 0, "frame.bytes", when);
     expect_canaries(when);
 }
 
@@ -108,7 +108,7 @@ static void power_up_over(uint8_t byte)
 {
     fill = byte;
     memset(&memory, fill, sizeof memory);
-    expect_refusal(haybleater_power_up(&memory.head, 5, identity), HAYBLEATER_NO_REFUSAL, "power-up of node 5");
+    expect_refusal(haybleater_power_up(&memory.head, (haybleater_setup){.node = 5, .identity = identity}), HAYBLEATER_NO_REFUSAL, "power-up of node 5");
 }
 
 static bool is_padding(size_t at)
@@ -138,7 +138,7 @@ static void check_frames(void)
 {
     for (size_t i = 0; i < sizeof rows / sizeof rows[0]; i++) {
         expect_refusal(haybleater_receive(&memory.head, rows[i].hears), rows[i].refusal, rows[i].what);
-        expect_slot(rows[i].due, rows[i].what);
+        expect_slot(rows[i].outgoing, rows[i].what);
     }
 }
 
@@ -146,21 +146,21 @@ static void check_calls(void)
 {
     const haybleater_located nowhere = {.known = false}, here = {.known = true, .position = 69637};
     expect_answers(HAYBLEATER_INITIALISING, false, true, nowhere, "after power-up");
-    expect_slot((haybleater_due)SENT(0x705, 1, 0x00), "boot-up frame");
-    expect_slot((haybleater_due)SENT(0x085, 8, 0x00, 0x50, 0x01), "emergency");
-    expect_slot((haybleater_due)NOTHING, "slot when nothing waits");
+    expect_slot((haybleater_outgoing)SENT(0x705, 1, 0x00), "boot-up frame");
+    expect_slot((haybleater_outgoing)SENT(0x085, 8, 0x00, 0x50, 0x01), "emergency");
+    expect_slot((haybleater_outgoing)NOTHING, "slot when nothing waits");
     expect_answers(HAYBLEATER_PRE_OPERATIONAL, false, false, nowhere, "before the first sample");
     expect_refusal(haybleater_sample(&memory.head, 69637), HAYBLEATER_NO_REFUSAL, "sample");
     expect_refusal(haybleater_sample(&memory.head, 1048576), HAYBLEATER_BAD_SAMPLE, "sample out of range");
     expect_answers(HAYBLEATER_PRE_OPERATIONAL, true, true, here, "after a sample");
-    expect_slot((haybleater_due)SENT(0x085, 8, 0x00), "emergency of a good reading");
+    expect_slot((haybleater_outgoing)SENT(0x085, 8, 0x00), "emergency of a good reading");
     check_frames();
     haybleater_tick(&memory.head);
     expect_answers(HAYBLEATER_PRE_OPERATIONAL, true, false, here, "after a tick");
     haybleater_missing(&memory.head);
     expect_answers(HAYBLEATER_PRE_OPERATIONAL, false, true, nowhere, "after a missing sample");
-    expect_refusal(haybleater_power_up(&memory.head, 128, identity), HAYBLEATER_BAD_NODE, "power-up of node 128");
-    expect_slot((haybleater_due)SENT(0x701, 1, 0x00), "boot-up frame of a refused power-up");
+    expect_refusal(haybleater_power_up(&memory.head, (haybleater_setup){.node = 128, .identity = identity}), HAYBLEATER_BAD_NODE, "power-up of node 128");
+    expect_slot((haybleater_outgoing)SENT(0x701, 1, 0x00), "boot-up frame of a refused power-up");
 }
 
 int main(void)

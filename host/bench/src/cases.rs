@@ -16,6 +16,8 @@ pub enum Call {
 
 pub struct Case {
     pub name: &'static str,
+    /// How many times as long as the reference's the call may take.
+    pub target: f64,
     before: Vec<Call>,
     pub call: Call,
     /// As the session program prints them.
@@ -73,8 +75,13 @@ fn data<const N: usize>(identifier: u32, given: [u8; N]) -> Call {
     })
 }
 
+/// An NMT command to the head.
+fn command(code: u8) -> Call {
+    data(0x000, [code, 0x01])
+}
+
 fn start() -> Call {
-    data(0x000, [0x01, 0x01])
+    command(0x01)
 }
 
 fn sync() -> Call {
@@ -113,13 +120,28 @@ fn operational() -> Vec<Call> {
     [pre_operational(), entry.to_vec()].concat()
 }
 
+/// As `operational`, but a heartbeat and TPDO1 at each tick.
+fn busy() -> Vec<Call> {
+    let (heartbeat, tpdo1) = (write_2(0x1017, 0, 1), write_2(0x1800, 5, 1));
+    then(operational(), [heartbeat, Call::Slot, tpdo1, Call::Slot])
+}
+
+/// As `busy`, and all five kinds wait; the emergency is to say that the reading is good again.
+fn full() -> Vec<Call> {
+    use Call::{Missing, Sample, Slot, Tick};
+    let reply = read(0x6004, 0);
+    then(busy(), [Missing, Slot, Sample(RAW), reply, Tick, sync()])
+}
+
 fn then<const N: usize>(before: Vec<Call>, more: [Call; N]) -> Vec<Call> {
     [before, more.to_vec()].concat()
 }
 
+/// A case of a call that is to take at most 1.3 times as long as the reference's.
 fn case(name: &'static str, before: Vec<Call>, call: Call, sends: &'static str) -> Case {
     Case {
         name,
+        target: 1.3,
         before,
         call,
         sends,
@@ -127,21 +149,54 @@ fn case(name: &'static str, before: Vec<Call>, call: Call, sends: &'static str) 
 }
 
 pub fn all() -> Vec<Case> {
-    let groups = [ticks_and_samples(), frames(), requests(), slots()];
+    let groups = [
+        at_most(1.8, ticks()),
+        samples(),
+        frames(),
+        at_most(2.5, commands()),
+        reads(),
+        at_most(1.6, writes()),
+        slots(),
+    ];
     groups.into_iter().flatten().collect()
 }
 
-fn ticks_and_samples() -> Vec<Case> {
-    use Call::{Missing, Sample, Slot, Tick};
-    let missing = || then(operational(), [Missing, Slot]);
-    let announced = "081 8 00 50 01 00 00 00 00 00";
-    let over = "081 8 00 00 00 00 00 00 00 00";
+fn at_most(target: f64, cases: Vec<Case>) -> Vec<Case> {
+    let cases = cases.into_iter();
+    cases.map(|case| Case { target, ..case }).collect()
+}
+
+const BOOT_UP: &str = "701 1 00";
+const ANNOUNCED: &str = "081 8 00 50 01 00 00 00 00 00";
+const TPDO1: &str = "181 4 05 10 01 00";
+const TPDO2: &str = "281 4 05 10 01 00";
+/// What `full` sends.
+const ALL_FIVE: &str = "081 8 00 00 00 00 00 00 00 00, 581 8 43 04 60 00 05 10 01 00, \
+                        701 1 05, 181 4 05 10 01 00, 281 4 05 10 01 00";
+
+fn ticks() -> Vec<Case> {
+    let tick = |name, before, sends| case(name, before, Call::Tick, sends);
     vec![
-        case("tick-idle", pre_operational(), Tick, ""),
-        case("tick-counting", operational(), Tick, ""),
+        tick("tick-idle", pre_operational(), ""),
+        tick("tick-counting", operational(), ""),
+        tick("tick-due", busy(), "701 1 05, 181 4 05 10 01 00"),
+        tick("tick-full-line", full(), ALL_FIVE),
+    ]
+}
+
+fn samples() -> Vec<Case> {
+    use Call::{Missing, Sample, Slot, Tick};
+    let missing = then(operational(), [Missing, Slot]);
+    let ended = "081 8 00 00 00 00 00 00 00 00";
+    let with_pdos = then(busy(), [Tick, sync(), read(0x6004, 0)]);
+    let without = "701 1 05, 581 8 43 04 60 00 05 10 01 00, 081 8 00 50 01 00 00 00 00 00";
+    let left = "581 8 43 04 60 00 05 10 01 00, 701 1 05";
+    vec![
         case("sample-good-again", operational(), Sample(70_000), ""),
-        case("missing-after-good", operational(), Missing, announced),
-        case("good-after-missing", missing(), Sample(RAW), over),
+        case("missing-after-good", operational(), Missing, ANNOUNCED),
+        case("missing-takes-pdos", with_pdos, Missing, without),
+        case("missing-full-line", full(), Missing, left),
+        case("good-after-missing", missing, Sample(RAW), ended),
     ]
 }
 
@@ -149,44 +204,54 @@ fn frames() -> Vec<Case> {
     let foreign = data(0x123, [1, 2, 3, 4, 5, 6, 7, 8]);
     vec![
         case("foreign-frame", operational(), foreign, ""),
-        case("sync", operational(), sync(), "281 4 05 10 01 00"),
+        case("sync", operational(), sync(), TPDO2),
+        case("sync-full-line", full(), sync(), ALL_FIVE),
         case("nmt-present-state", operational(), start(), ""),
     ]
 }
 
-fn requests() -> Vec<Case> {
-    let request = |name, request, reply| case(name, operational(), request, reply);
+/// Those that change the state.
+fn commands() -> Vec<Case> {
+    let nmt = |name, before, code, sends| case(name, before, command(code), sends);
+    let tpdo2 = then(operational(), [sync()]);
     vec![
-        request(
-            "read-6004",
-            read(0x6004, 0),
-            "581 8 43 04 60 00 05 10 01 00",
-        ),
-        request(
-            "read-1000",
-            read(0x1000, 0),
-            "581 8 43 00 10 00 96 01 08 00",
-        ),
-        request(
-            "read-1018-4",
-            read(0x1018, 4),
-            "581 8 43 18 10 04 04 00 00 00",
-        ),
-        request(
-            "write-1017",
-            write_2(0x1017, 0, 500),
-            "581 8 60 17 10 00 00 00 00 00",
-        ),
-        request(
-            "write-1800-5",
-            write_2(0x1800, 5, 50),
-            "581 8 60 00 18 05 00 00 00 00",
-        ),
-        request(
-            "write-6003",
-            write_4(0x6003, 0, 40),
-            "581 8 60 03 60 00 00 00 00 00",
-        ),
+        nmt("nmt-operational", pre_operational(), 0x01, TPDO1),
+        nmt("nmt-stopped", full(), 0x02, "701 1 04"),
+        nmt("nmt-pre-operational", tpdo2, 0x80, ""),
+        nmt("nmt-reset-node", operational(), 0x81, BOOT_UP),
+        nmt("nmt-reset-comm", operational(), 0x82, BOOT_UP),
+    ]
+}
+
+fn reads() -> Vec<Case> {
+    let missing = then(operational(), [Call::Missing, Call::Slot]);
+    let asked = |name, index, sub, reply| case(name, operational(), read(index, sub), reply);
+    let no_index = "581 8 80 00 20 00 00 00 02 06";
+    let blank = "581 8 80 04 60 00 24 00 00 08";
+    vec![
+        asked("read-6004", 0x6004, 0, "581 8 43 04 60 00 05 10 01 00"),
+        asked("read-1000", 0x1000, 0, "581 8 43 00 10 00 96 01 08 00"),
+        asked("read-1018-4", 0x1018, 4, "581 8 43 18 10 04 04 00 00 00"),
+        asked("read-no-index", 0x2000, 0, no_index),
+        case("read-blank", missing, read(0x6004, 0), blank),
+    ]
+}
+
+fn writes() -> Vec<Case> {
+    let given = |name, write, reply| case(name, operational(), write, reply);
+    let heartbeat = write_2(0x1017, 0, 500);
+    let event = write_2(0x1800, 5, 50);
+    let preset = write_4(0x6003, 0, 40);
+    let save = write_4(0x1010, 1, u32::from_le_bytes(*b"save"));
+    let load = write_4(0x1011, 1, u32::from_le_bytes(*b"load"));
+    let bad_bits = write_2(0x6000, 0, 1);
+    vec![
+        given("write-1017", heartbeat, "581 8 60 17 10 00 00 00 00 00"),
+        given("write-1800-5", event, "581 8 60 00 18 05 00 00 00 00"),
+        given("write-6003", preset, "581 8 60 03 60 00 00 00 00 00"),
+        given("write-save", save, "581 8 60 10 10 01 00 00 00 00"),
+        given("write-load", load, "581 8 60 11 10 01 00 00 00 00"),
+        given("write-refused", bad_bits, "581 8 80 00 60 00 30 00 09 06"),
     ]
 }
 
@@ -200,11 +265,12 @@ fn slots() -> Vec<Case> {
     let tpdo2 = then(operational(), [sync()]);
     vec![
         slot("slot-none", operational(), ""),
-        slot("slot-boot-up", vec![Call::Sample(RAW)], "701 1 00"),
-        slot("slot-emergency", missing, "081 8 00 50 01 00 00 00 00 00"),
+        slot("slot-boot-up", vec![Call::Sample(RAW)], BOOT_UP),
+        slot("slot-emergency", missing, ANNOUNCED),
         slot("slot-reply", reply, "581 8 43 04 60 00 05 10 01 00"),
         slot("slot-heartbeat", heartbeat, "701 1 7F"),
-        slot("slot-tpdo1", tpdo1, "181 4 05 10 01 00"),
-        slot("slot-tpdo2", tpdo2, "281 4 05 10 01 00"),
+        slot("slot-tpdo1", tpdo1, TPDO1),
+        slot("slot-tpdo2", tpdo2, TPDO2),
+        slot("slot-full-line", full(), ALL_FIVE),
     ]
 }

@@ -1,6 +1,6 @@
 //! The proved head against the reference, call by call.
 //!
-//!     bench times                 a line a call: name, nanoseconds of both heads
+//!     bench times                 a line a call: name, target of the ratio, nanoseconds of both heads
 //!     bench count NAME HEAD N     makes the call to N heads; HEAD is `proved` or `reference`
 //!     bench sizes                 the bytes of a proved head and of a reference
 //!     bench session PROGRAM       the lines a second that a session program takes
@@ -16,9 +16,7 @@ use std::env;
 use std::process::ExitCode;
 
 use cases::Case;
-
-/// The most bytes of a head.
-const LARGEST: usize = size_of::<proved::Head>();
+use proved::LARGEST;
 
 fn main() -> ExitCode {
     let words: Vec<String> = env::args().skip(1).collect();
@@ -53,7 +51,7 @@ fn times() -> Result<(), String> {
     }
     for case in &cases {
         let (proved, plain) = measure::times::<proved::Head, reference::Head>(case);
-        println!("{}\t{proved:.1}\t{plain:.1}", case.name);
+        println!("{}\t{}\t{proved:.2}\t{plain:.2}", case.name, case.target);
     }
     Ok(())
 }

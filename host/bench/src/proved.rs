@@ -4,8 +4,17 @@ use std::mem::MaybeUninit;
 
 use crate::head::{self, IDENTITY, NODE};
 
-/// Memory that is lent for a head, in words: as much as a head may take.
-const ROOM: usize = 64;
+/// The most words of a head.
+const WORDS: usize = if cfg!(feature = "padded") {
+    64 + 80
+} else {
+    64
+};
+/// The most bytes of a head.
+pub const LARGEST: usize = WORDS * size_of::<u32>();
+/// Words of memory that are lent for a head. One more than it may take: of many heads side by side each
+/// then lies differently in the lines of a cache.
+const ROOM: usize = WORDS + 1;
 
 #[derive(Clone, Copy)]
 #[repr(C)]
@@ -24,12 +33,19 @@ struct Identity {
 
 #[derive(Clone, Copy)]
 #[repr(C)]
+struct Setup {
+    node: u8,
+    identity: Identity,
+}
+
+#[derive(Clone, Copy)]
+#[repr(C)]
 pub struct Received {
+    bytes: [u8; 8],
     identifier: u32,
     extended: bool,
     remote: bool,
     length: u8,
-    bytes: [u8; 8],
 }
 
 #[derive(Clone, Copy)]
@@ -42,7 +58,7 @@ struct Frame {
 
 #[derive(Clone, Copy)]
 #[repr(C)]
-pub struct Due {
+pub struct Outgoing {
     waited: bool,
     frame: Frame,
 }
@@ -50,27 +66,63 @@ pub struct Due {
 // `haybleater_slot` is compiled with the place of its answer as first argument, which it returns:
 // this is how C returns a structure of that size on x86-64, and not on other processors.
 extern "C" {
-    fn haybleater_power_up(head: *mut u32, node: u8, identity: Identity) -> u8;
+    #[cfg(target_arch = "x86_64")]
+    fn haybleater_power_up(head: *mut u32, setup: Setup) -> u8;
+    /// Compiled with what is set up on the stack, as C has it on x86-64: behind the eight arguments in registers.
+    #[cfg(not(target_arch = "x86_64"))]
+    fn haybleater_power_up(
+        head: *mut u32,
+        x1: u64,
+        x2: u64,
+        x3: u64,
+        x4: u64,
+        x5: u64,
+        x6: u64,
+        x7: u64,
+        first: u64,
+        second: u64,
+        third: u64,
+    ) -> u8;
     fn haybleater_receive(head: *mut u32, frame: Received) -> u8;
     fn haybleater_tick(head: *mut u32);
     fn haybleater_sample(head: *mut u32, raw: u32) -> u8;
     fn haybleater_missing(head: *mut u32);
-    fn haybleater_slot(due: *mut Due, head: *mut u32) -> *mut Due;
+    fn haybleater_slot(outgoing: *mut Outgoing, head: *mut u32) -> *mut Outgoing;
 }
 
-const OWN_IDENTITY: Identity = Identity {
-    vendor: IDENTITY.vendor,
-    product: IDENTITY.product,
-    revision: IDENTITY.revision,
-    serial: IDENTITY.serial,
+const SETUP: Setup = Setup {
+    node: NODE,
+    identity: Identity {
+        vendor: IDENTITY.vendor,
+        product: IDENTITY.product,
+        revision: IDENTITY.revision,
+        serial: IDENTITY.serial,
+    },
 };
+
+/// # Safety
+/// The memory is as large as a head.
+#[cfg(target_arch = "x86_64")]
+unsafe fn power_up(memory: *mut u32) {
+    haybleater_power_up(memory, SETUP);
+}
+
+/// # Safety
+/// The memory is as large as a head.
+#[cfg(not(target_arch = "x86_64"))]
+unsafe fn power_up(memory: *mut u32) {
+    let Identity { vendor, product, revision, serial } = SETUP.identity;
+    let pair = |low: u32, high: u32| u64::from(low) | u64::from(high) << 32;
+    let [first, second, third] = [pair(SETUP.node.into(), vendor), pair(product, revision), serial.into()];
+    haybleater_power_up(memory, 0, 0, 0, 0, 0, 0, 0, first, second, third);
+}
 
 /// The bytes of a head: up to the last word that power-up writes, whatever the memory held before.
 pub fn size() -> usize {
     let written = |held| {
         let mut memory = [held; 4 * ROOM];
         // SAFETY: the memory is four times what a head may take.
-        unsafe { haybleater_power_up(memory.as_mut_ptr(), NODE, OWN_IDENTITY) };
+        unsafe { power_up(memory.as_mut_ptr()) };
         memory.iter().rposition(|word| *word != held)
     };
     let last = written(0).max(written(u32::MAX));
@@ -81,11 +133,11 @@ pub fn size() -> usize {
 // looked at before any other call.
 impl head::Head for Head {
     type Received = Received;
-    type Due = Due;
+    type Due = Outgoing;
 
     fn power_up() -> Head {
         let mut memory = [0; ROOM];
-        unsafe { haybleater_power_up(memory.as_mut_ptr(), NODE, OWN_IDENTITY) };
+        unsafe { power_up(memory.as_mut_ptr()) };
         Head { memory }
     }
 
@@ -105,7 +157,7 @@ impl head::Head for Head {
         unsafe { haybleater_missing(self.memory.as_mut_ptr()) }
     }
 
-    fn slot(&mut self) -> Due {
+    fn slot(&mut self) -> Outgoing {
         let mut due = MaybeUninit::uninit();
         unsafe {
             haybleater_slot(due.as_mut_ptr(), self.memory.as_mut_ptr());
@@ -126,8 +178,8 @@ impl From<reference::Received> for Received {
     }
 }
 
-impl From<Due> for Option<reference::Frame> {
-    fn from(due: Due) -> Option<reference::Frame> {
+impl From<Outgoing> for Option<reference::Frame> {
+    fn from(due: Outgoing) -> Option<reference::Frame> {
         due.waited.then_some(reference::Frame {
             identifier: due.frame.identifier,
             length: due.frame.length,
