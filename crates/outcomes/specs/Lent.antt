@@ -1,4 +1,4 @@
--- A head that a host lends is one of those that the demands are about: power-up in place makes one, and each call leaves one. The contracts of `lent` promise
+-- A head that a host lends is one of those that the demands are about: power-up makes one, and each call leaves one. The contracts of `lent` promise
 -- what stands here left of the arrow, as `Outcomes` shows.
 use Prim.Native.Nat.{ℕ}
 use Rattle.can.specs.declared.Received.{Received}

@@ -1,4 +1,4 @@
-//! What a head is made of, what its calls take and what they answer. The calls are those of crate `head`.
+//! What a head is made of, what its calls take and what they answer. The calls are those of crates `head` and `lent`.
 use can::Bytes;
 use can::Frame;
 use entries::Device;

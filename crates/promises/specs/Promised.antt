@@ -1,5 +1,5 @@
 -- What each call promises: its answer is the one that specs/Calls.antt gives,
--- and it leaves a valid head. The contracts of `head` are these.
+-- and it leaves a valid head. The contracts of `head` and `lent` are these.
 use Prim.Native.Nat.{ℕ}
 use mathlib.Core.Path.{_≡_}
 use Rattle.can.specs.declared.Received.{Received}

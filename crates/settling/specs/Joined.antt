@@ -1,4 +1,4 @@
--- Who joins the line where none goes: those whose moment it is, if they may, by the parts of a head that decide it.
+-- Who joins the line: those whose moment it is, if they may, by the parts of a head that decide it.
 use Prim.Native.Nat.{ℕ}
 use mathlib.Core.Bool.{Bool, _&&_}
 use mathlib.Core.List.{List}

@@ -1,4 +1,4 @@
-//! Who joins the line where none goes.
+//! Who joins the line: those whose moment it is, if they may.
 ghost use mathlib.Core.Path.{_≡_};
 ghost use Rattle.settling.specs.Joined.{joinedBy};
 use entries::Communication;
