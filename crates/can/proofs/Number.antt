@@ -3,9 +3,9 @@ use Prim.Native.Nat.{ℕ, zero, suc, _+_, _*_, _/_, _%_, _^_, _<_}
 use mathlib.Core.Path.{_≡_, refl, ap, _∙_}
 use mathlib.Core.List.{List, [], _∷_, _++_}
 use native.Mathlib.Nat.{mod-lt, mod-add-div, pow-suc, div-lt-iff-lt-mul, add-mul-mod-self-left, add-mul-div-left, mod-eq-of-lt}
-use native.Mathlib.Nat.{div-eq-of-lt, zero-add, suc-add}
+use native.Mathlib.Nat.{div-eq-of-lt, zero-add, suc-add, div-one, div-div-eq-div-mul, pow-succ', not-suc-le-zero, le-of-suc-le-suc}
 use native.Mathlib.Omega.{arith}
-use lib.ListN.{length, replicate}
+use lib.ListN.{length, getD, replicate}
 use Rattle.can.specs.Number.{lowFirst, number, AreBytes, Numbers}
 
 -- what is left of a number that fits, without its low byte
@@ -40,5 +40,20 @@ unused : (w k v : ℕ) → v < 256 ^ w → lowFirst (w + k) v ≡ lowFirst w v +
 unused zero k v h = let z : v ≡ 0 = omega arith in rw (z, zero-add) (zeros k)
 unused (suc w) k v h = rw suc-add (ap {B = List ℕ} (λ l. v % 256 ∷ l) (unused w k (v / 256) (high w v h)))
 
+byte : (w v i : ℕ) → i < w → getD (lowFirst w v) i 0 ≡ v / 256 ^ i % 256
+byte zero v i h = absurd (not-suc-le-zero h)
+byte (suc w) v zero h = rw (div-one v)
+byte (suc w) v (suc i) h = byte w (v / 256) i (le-of-suc-le-suc h) ∙ rw (div-div-eq-div-mul v 256 (256 ^ i), pow-succ')
+
 pub numbers : Numbers
-numbers = record { back = back; again = again; long = long; bytes = bytes; unused = unused }
+numbers =
+    record {
+      byte = byte;
+      two = λ a b. omega arith;
+      four = λ a b c d. omega arith;
+      back = back;
+      again = again;
+      long = long;
+      bytes = bytes;
+      unused = unused;
+    }

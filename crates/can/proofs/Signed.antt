@@ -22,7 +22,7 @@ bits (pos n) h = omega arith
 bits (negsuc n) h = omega arith
 
 pub signs : Signs
-signs = record { back = back; again = again; bits = bits }
+signs = record { plus = λ n h. refl; minus = λ n h. omega arith; back = back; again = again; bits = bits }
 
 -- a number that is not below 0
 pub plus : (z : ℤ) → leZ (pos 0) z ≡ true → T (nonNeg z) × (natAbs z ≡ twos z)

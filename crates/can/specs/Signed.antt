@@ -1,6 +1,6 @@
 -- Signed numbers in 32 bits, two's complement: the offset, entry 6509-0, is an S32.
--- `Signs` says that nothing is lost on the way there or back.
-use Prim.Native.Nat.{ℕ, _-_, _≤_, _<_}
+-- `Signs` says what the bits are, and that nothing is lost on the way there or back.
+use Prim.Native.Nat.{ℕ, suc, _+_, _-_, _≤_, _<_}
 use mathlib.Core.Path.{_≡_}
 use mathlib.Core.Bool.{cond}
 use lib.Dec.{ltb}
@@ -18,6 +18,9 @@ signed v = cond (ltb v 0x80000000) (pos v) (negsuc (0xFFFFFFFF - v))
 
 -- `mag` is n of `pos n` and of `negsuc n`: a number that fits 32 bits and its bits undo each other.
 pub record Signs : Type 0 where
+  -- a number that is not negative is its own bits; the bits of -1 - n are 2 to the 32 less 1 + n
+  pub plus : (n : ℕ) → n < 0x80000000 → twos (pos n) ≡ n
+  pub minus : (n : ℕ) → n < 0x80000000 → twos (negsuc n) + suc n ≡ 0x100000000
   pub back : (z : ℤ) → mag z < 0x80000000 → signed (twos z) ≡ z
   pub again : (v : ℕ) → v ≤ 0xFFFFFFFF → twos (signed v) ≡ v
   pub bits : (z : ℤ) → mag z < 0x80000000 → twos z ≤ 0xFFFFFFFF

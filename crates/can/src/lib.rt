@@ -2,9 +2,10 @@
 
 ghost use mathlib.Core.Path.{_≡_};
 ghost use mathlib.Core.List.{[], _∷_};
-ghost use Rattle.can.specs.Frame.{badIdentifier, badLength, refusalOf};
-ghost use Rattle.can.specs.Number.{number, lowFirst};
-ghost use Rattle.can.specs.Signed.{twos};
+ghost use Rattle.can.specs.Frame.{badIdentifier, badLength, refusalOf, Refusals};
+ghost use Rattle.can.specs.Number.{number, lowFirst, Numbers};
+ghost use Rattle.can.specs.Signed.{twos, Signs};
+ghost use Rattle.can.specs.Worked.{Worked};
 
 pub type Bytes = [u8; 8];
 
@@ -99,3 +100,8 @@ pub fn bits(x: i32) -> u32
     }
     0xFFFF_FFFF - (-1 - x) as u32
 }
+
+// It does nothing: what it ensures are the statements of the crate, so that the crate is proved only if they are.
+fn statements()
+    ensures { λ r. ⌜ Refusals × Numbers × Signs × Worked ⌝ }
+{}

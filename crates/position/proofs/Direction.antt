@@ -2,40 +2,45 @@
 use Prim.Native.Nat.{ℕ, _+_, _-_, _/_, _%_, _<_}
 use native.Mathlib.Nat.{mod-lt, mod-eq-of-lt}
 use native.Mathlib.Omega.{arith}
+use lib.Dec.{eqb}
 use lib.IntN.{pos, _+ℤ_}
 use mathlib.Core.Path.{_≡_, refl, sym, ap, _∙_}
 use mathlib.Core.Bool.{Bool, true, false, not, cond}
 use borrow.Author.Tests.{eqb-true, eqb-false}
-use Rattle.cases.proofs.Cases.{by, cond-ap}
+use Rattle.cases.proofs.Cases.{by, test, cond-ap}
 use Rattle.position.specs.declared.Profile.{Profile}
 use Rattle.position.specs.Position.{bit, scalingBit, directionBit, modℤ, count, directed}
 use Rattle.position.specs.Profile.{ValidProfile}
 use Rattle.position.specs.Laws.{turned, Mirrors}
+use Rattle.position.proofs.Bits.{clear}
 
 pub directed-below : (p : Profile) (r : ℕ) → 0 < p .range → directed p r < p .range
 directed-below p r h = by (λ d. d < p .range) (bit directionBit (p .operating)) (λ _. omega arith) (λ _. mod-lt _ h)
 
+over-turned : (p : Profile) → turned p .operating / 8 % 2 ≡ 1 - p .operating / 8 % 2
+over-turned p =
+    let v = p .operating in
+    by (λ w. w / 8 % 2 ≡ 1 - v / 8 % 2) (eqb (v / 8 % 2) 1)
+    (λ e. omega (arith, eqb-true (v / 8 % 2) 1 e))
+    (λ e. omega (arith, eqb-false (v / 8 % 2) 1 e))
+
+same-turned : (p : Profile) → turned p .operating / 4 % 2 ≡ p .operating / 4 % 2
+same-turned p =
+    let v = p .operating in
+    by (λ w. w / 4 % 2 ≡ v / 4 % 2) (eqb (v / 8 % 2) 1)
+    (λ e. omega (arith, eqb-true (v / 8 % 2) 1 e))
+    (λ e. omega arith)
+
 direction-turned : (p : Profile) → bit directionBit (turned p .operating) ≡ not (bit directionBit (p .operating))
 direction-turned p =
     let v = p .operating in
-    by (λ w. bit directionBit w ≡ not (bit directionBit v)) (bit directionBit v) (off v) (on v)
-  where
-    off : (v : ℕ) → bit directionBit v ≡ true → bit directionBit (v - 8) ≡ not (bit directionBit v)
-    off v e = let m : (v - 8) / 8 % 2 ≡ 0 = omega (arith, eqb-true (v / 8 % 2) 1 e) in rw (m, e)
-
-    on : (v : ℕ) → bit directionBit v ≡ false → bit directionBit (v + 8) ≡ not (bit directionBit v)
-    on v e = let m : (v + 8) / 8 % 2 ≡ 1 = omega (arith, eqb-false (v / 8 % 2) 1 e) in rw (m, e)
+    rw (over-turned p)
+    (test (eqb (v / 8 % 2) 1)
+    (λ e. rw (eqb-true (v / 8 % 2) 1 e))
+    (λ e. let z : v / 8 % 2 ≡ 0 = omega (arith, eqb-false (v / 8 % 2) 1 e) in rw z))
 
 scaling-turned : (p : Profile) → bit scalingBit (turned p .operating) ≡ bit scalingBit (p .operating)
-scaling-turned p =
-    let v = p .operating in
-    by (λ w. bit scalingBit w ≡ bit scalingBit v) (bit directionBit v) (off v) (on v)
-  where
-    off : (v : ℕ) → bit directionBit v ≡ true → bit scalingBit (v - 8) ≡ bit scalingBit v
-    off v e = let m : (v - 8) / 4 % 2 ≡ v / 4 % 2 = omega (arith, eqb-true (v / 8 % 2) 1 e) in rw m
-
-    on : (v : ℕ) → bit directionBit v ≡ false → bit scalingBit (v + 8) ≡ bit scalingBit v
-    on v e = let m : (v + 8) / 4 % 2 ≡ v / 4 % 2 = omega arith in rw m
+scaling-turned p = ap (λ (b : ℕ). eqb b 1) (same-turned p)
 
 swapped : (b : Bool) (c t : ℕ) → c < t → cond (not b) (t - 1 - c) c ≡ t - 1 - cond b (t - 1 - c) c
 swapped true c t h = omega arith
@@ -71,15 +76,15 @@ turned-valid p f = record {
     bits : (turned p .operating % 4 ≡ 0) × (turned p .operating < 16)
     bits =
         let v = p .operating in
-        by (λ w. (w % 4 ≡ 0) × (w < 16)) (bit directionBit v)
+        by (λ w. (w % 4 ≡ 0) × (w < 16)) (eqb (v / 8 % 2) 1)
         (λ e. omega (arith, eqb-true (v / 8 % 2) 1 e))
         (λ e. omega (arith, eqb-false (v / 8 % 2) 1 e))
 
 pub mirrors : (p : Profile) (r : ℕ) → ValidProfile p → Mirrors p r
 mirrors p r f = record {
-  over = direction-turned p;
-  same = scaling-turned p;
+  over = over-turned p;
+  same = same-turned p;
   valid = turned-valid p f;
   directed-turned = directed-turned p r (omega arith);
-  other-end = λ e l. ap (λ (d : ℕ). modℤ (pos d +ℤ p .offset) (p .range)) (other-end p r e l);
+  other-end = λ e l. ap (λ (d : ℕ). modℤ (pos d +ℤ p .offset) (p .range)) (other-end p r (clear scalingBit (p .operating) e) l);
 }

@@ -3,7 +3,7 @@ use Prim.Native.Nat.{ℕ, _+_, _*_, _/_, _%_, _≤_, _<_}
 use native.Mathlib.Nat.{mod-lt, mod-eq-of-lt, mod-add-div'}
 use native.Mathlib.Omega.{arith}
 use lib.IntN.{ℤ, pos, _+ℤ_, _-ℤ_, +ℤ-comm, +ℤ-idr, -ℤ-+ℤ-cancel}
-use mathlib.Core.Path.{_≡_, sym, ap, _∙_}
+use mathlib.Core.Path.{_≡_, refl, sym, ap, _∙_}
 use mathlib.Core.Bool.{true}
 use Rattle.position.specs.declared.Profile.{Profile}
 use Rattle.position.specs.Position.{bit, scalingBit, directionBit, modℤ, scaledCount, count, directed, position, presetTo}
@@ -11,6 +11,7 @@ use Rattle.position.specs.Profile.{ValidProfile}
 use Rattle.position.specs.Laws.{Agrees, Positions, Presets, Laws}
 use Rattle.position.proofs.Whole.{difference-below}
 use Rattle.position.proofs.Modulo.{mod-below, mod-multiple, mod-more}
+use Rattle.position.proofs.Bits.{set, clear, bits, ranges}
 use Rattle.position.proofs.Direction.{directed-below, mirrors}
 
 -- a number divided, rounded down
@@ -43,12 +44,12 @@ positions : (p : Profile) (r : ℕ) → ValidProfile p → Positions p r
 positions p r v =
     let h : 0 < p .range = omega arith in
     record {
-      unscaled = λ e. rw e;
-      scaled = scaled p r (omega arith);
+      unscaled = λ e. rw (clear scalingBit (p .operating) e);
+      scaled = λ e. scaled p r (omega arith) (set scalingBit (p .operating) e);
       count-below = mod-lt (scaledCount p r) h;
       counted = (scaledCount p r / p .range, sym (mod-add-div' (scaledCount p r) (p .range)));
-      straight = λ e. rw e;
-      inverted = inverted p r h;
+      straight = λ e. rw (clear directionBit (p .operating) e);
+      inverted = λ e. inverted p r h (set directionBit (p .operating) e);
       directed-below = directed-below p r h;
       below = mod-below (pos (directed p r) +ℤ p .offset) (p .range) h;
       agrees = mod-multiple (pos (directed p r) +ℤ p .offset) (p .range) h;
@@ -79,7 +80,9 @@ presets p r v f l =
         step-high = f .step-high;
         offset = within;
       };
+      kept = refl;
+      others = (refl, refl, refl);
     }
 
 pub laws : Laws
-laws = record { positions = positions; mirrors = mirrors; presets = presets }
+laws = record { bits = bits; ranges = ranges; positions = positions; mirrors = mirrors; presets = presets }

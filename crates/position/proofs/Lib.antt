@@ -1,6 +1,7 @@
 pub mod Whole
 pub mod Modulo
 pub mod Offset
+pub mod Bits
 pub mod Direction
 pub mod Laws
 pub mod Worked

@@ -10,15 +10,11 @@ use lib.ListN.{length, drop}
 use borrow.Author.Tests.{eq-eqb, ne-eqb}
 use Rattle.cases.specs.Padded.{pad}
 use Rattle.cases.proofs.Cases.{by, by₂}
+use Rattle.cases.proofs.Shared.{shared}
 use Rattle.waiting.specs.Line.{has, Kinds, join, withdraw, first}
 use Rattle.waiting.specs.Places.{joinIn, withdrawIn, takenIn, waiting, Holds}
 use Rattle.waiting.specs.Calls.{withdraws, joins, after, withdrawsIn, joinsIn, afterIn, Named, none, more}
 use Rattle.waiting.proofs.Room.{withdraw-none, kinds-withdraw, kinds-join, room}
-
-length-pad : (n : ℕ) (ws : List ℕ) → length (pad n ws) ≡ n
-length-pad zero ws = refl
-length-pad (suc n) [] = ap suc (length-pad n [])
-length-pad (suc n) (x ∷ xs) = ap suc (length-pad n xs)
 
 join-pad : (n m k : ℕ) (ws : List ℕ) → Kinds n ws → joinIn (pad m ws) k ≡ pad m (join ws k)
 join-pad n zero k ws h = refl
@@ -97,7 +93,7 @@ module _ {n : ℕ} {l ws : List ℕ} (h : Holds n l ws) where
 
   pub holds-withdraw : (k : ℕ) → Holds n (withdrawIn l k) (withdraw ws k)
   holds-withdraw k =
-      record { shape = rw (h .shape, length-pad) (withdraw-pad n n k ws fits); kinds = kinds-withdraw n k ws (h .kinds) }
+      record { shape = rw (h .shape, shared .long n ws) (withdraw-pad n n k ws fits); kinds = kinds-withdraw n k ws (h .kinds) }
 
 pub holds-taken : {n : ℕ} {l ws : List ℕ} → Holds n l ws → Holds n (takenIn l) (drop 1 ws)
 holds-taken {n} {l} {ws} h = rw (holds-first h, ← withdraw-first n ws (h .kinds)) (holds-withdraw h (first ws))

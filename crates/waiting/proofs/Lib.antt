@@ -3,8 +3,9 @@ pub mod ByPlace
 pub mod After
 pub mod Room
 pub mod Holds
-pub mod Unmoved
 pub mod Order
+pub mod Lines
+pub mod Unmoved
 pub mod Due
 pub mod Laws
 pub mod Flagged

@@ -14,7 +14,7 @@ use Rattle.waiting.specs.Worked.{allWait}
 use Rattle.waiting.specs.Trace.{Sound}
 use Rattle.waiting.specs.Plain.{Apart, Call, slotCall, otherCall, isSlot, outOf, intoOf, plain, BySlotN, calls, Example}
 use Rattle.waiting.proofs.Holds.{holds-after}
-use Rattle.waiting.proofs.Slots.{demand3}
+use Rattle.waiting.proofs.Slots.{leaves, demand3, recorded}
 
 named : {n : ℕ} (c : Call n) → Named n (intoOf c)
 named slotCall = none
@@ -34,8 +34,13 @@ plain-sound n =
       apart = λ ws c k h. apart c k;
     }
 
-pub by-slot-n : BySlotN
-by-slot-n n = demand3 (plain n) (plain-sound n)
+pub by-slot-n : (n : ℕ) → BySlotN n
+by-slot-n n =
+    record {
+      in-turn = leaves (plain n) (plain-sound n);
+      by-slot-n = demand3 (plain n) (plain-sound n);
+      recorded = λ b k ws cs. recorded (plain n);
+    }
 
 kept : Named places (emergency ∷ [])
 kept = search (none, more, needs)
@@ -56,6 +61,7 @@ example =
       other = other;
       again = again;
       none-out = none-out;
-      leaves = by-slot-n places allWait emergency (calls kept other again none-out) (search needs) refl (search needs);
+      leaves = by-slot-n places .by-slot-n allWait emergency (calls kept other again none-out) (search needs) refl (search needs);
+      five-slots = refl;
       all-sent = refl;
     }

@@ -8,23 +8,19 @@ use lib.Dec.{eqb}
 use lib.ListN.{length, drop, getD}
 use Rattle.cases.specs.Padded.{pad}
 use borrow.Author.Tests.{eq-eqb, ne-eqb, eqb-true, eqb-false, not-true}
-use Rattle.cases.proofs.Cases.{by, both, either, test, true-false}
-use Rattle.waiting.specs.Line.{places, has, Kinds, join, withdraw}
+use Rattle.cases.proofs.Cases.{both, either, test, true-false}
+use Rattle.waiting.specs.Line.{places, has, Kinds, withdraw}
 use Rattle.waiting.specs.Places.{joinIn, withdrawIn, takenIn, Holds}
 use Rattle.waiting.specs.Calls.{withdraws, withdrawsIn, joinsIn, ifDue}
 use Rattle.waiting.proofs.After.{has-withdraws}
+use Rattle.waiting.proofs.Lines.{lines}
 use Rattle.waiting.proofs.Room.{room, withdraw-none}
 use Rattle.waiting.proofs.Holds.{holds-has, holds-join, holds-withdraw, holds-withdraws, holds-taken}
-
-join-waiting : (k : ℕ) (ws : List ℕ) → has k ws ≡ true → join ws k ≡ ws
-join-waiting k [] e = true-false (sym e)
-join-waiting k (x ∷ xs) e =
-    by (λ (r : List ℕ). r ≡ x ∷ xs) (eqb x k) (λ t. refl) (λ t. ap {B = List ℕ} (λ r. x ∷ r) (join-waiting k xs (simp t at e)))
 
 module _ {n : ℕ} {l ws : List ℕ} (h : Holds n l ws) (k : ℕ) where
   -- one that waits keeps its place
   pub keeps-place : 0 < k → k ≤ n → has k ws ≡ true → joinIn l k ≡ l
-  keeps-place pos top e = holds-join h k pos top .shape ∙ ap (pad n) (join-waiting k ws e) ∙ sym (h .shape)
+  keeps-place pos top e = holds-join h k pos top .shape ∙ ap (pad n) (lines .keeps-its-place k ws e) ∙ sym (h .shape)
 
   -- one that does not wait cannot be withdrawn
   pub takes-none : has k ws ≡ false → withdrawIn l k ≡ l

@@ -1,16 +1,31 @@
--- What holds of the waiting line after every call, for any number n of kinds: `Laws`.
+-- What one join, one withdrawal and a slot do to the waiting line: `Lines`.
+-- What holds of it after every call, for any number n of kinds: `Laws`.
 -- There is room, the places hold the line, the order is kept, and it is known who waits.
 -- What holds of those that are due in one call: `InTurn`. They join in the order given.
 use Prim.Native.Nat.{ℕ, _<_, _≤_}
 use mathlib.Core.Path.{_≡_}
+use mathlib.Core.Logic.{_↔_}
 use mathlib.Core.Bool.{Bool, true, false, not, _&&_, _||_, cond}
 use mathlib.Core.List.{List, [], _∷_, _++_}
 use lib.Dec.{eqb}
 use lib.ListN.{length, drop}
 use Rattle.cases.specs.Padded.{pad}
-use Rattle.waiting.specs.Line.{places, order, has, Kinds, join, withdraw, first}
+use Rattle.waiting.specs.Line.{places, emergency, sdoReply, heartbeat, tpdo1, tpdo2, order, has, Kinds, join, withdraw, first}
 use Rattle.waiting.specs.Places.{joinIn, withdrawIn, takenIn, waiting, Holds}
-use Rattle.waiting.specs.Calls.{after, joinsIn, afterIn, ifDue, thoseDue, Named}
+use Rattle.waiting.specs.Calls.{after, joinsIn, afterIn, ifDue, thoseDue, flagged, Named}
+
+pub record Lines : Type 0 where
+  -- a kind waits exactly if it stands in the line
+  pub stands : (k : ℕ) (ws : List ℕ) → has k ws ≡ true ↔ (a : List ℕ) × (b : List ℕ) × (ws ≡ a ++ k ∷ b)
+  -- A kind joins at the end; one that waits already keeps its place.
+  pub at-the-end : (k : ℕ) (ws : List ℕ) → has k ws ≡ false → join ws k ≡ ws ++ k ∷ []
+  pub keeps-its-place : (k : ℕ) (ws : List ℕ) → has k ws ≡ true → join ws k ≡ ws
+  -- A withdrawal takes a kind; the others stay, in their order.
+  pub goes : (k : ℕ) (a b : List ℕ) → has k a ≡ false → has k b ≡ false → withdraw (a ++ k ∷ b) k ≡ a ++ b
+  pub none-goes : (k : ℕ) (ws : List ℕ) → has k ws ≡ false → withdraw ws k ≡ ws
+  -- A slot sends the first.
+  pub sends : (k : ℕ) (ws : List ℕ) → first (k ∷ ws) ≡ k
+  pub sends-none : first [] ≡ 0
 
 -- some of a list, in its order
 pub data Among : List ℕ → List ℕ → Type 0 where
@@ -32,7 +47,9 @@ pub record InOrder (slot : Bool) (out into ws : List ℕ) : Type 0 where
   pub new : (k : ℕ) → has k came ≡ true → has k stayed ≡ false
 
 pub record Laws (n : ℕ) : Type 0 where
-  -- each waits at most once: a kind that does not wait finds room in n places
+  -- kinds 1 to n wait, each at most once
+  pub once : (k : ℕ) (a b : List ℕ) → Kinds n (a ++ k ∷ b) → (0 < k) × (k ≤ n) × (has k a ≡ false) × (has k b ≡ false)
+  -- so that a kind that does not wait finds room in n places
   pub room : (k : ℕ) (ws : List ℕ) → Kinds n ws → 0 < k → k ≤ n → has k ws ≡ false → length ws < n
   -- what the code does to the places, it does to the line that they hold
   pub none : Holds n (pad n []) []
@@ -54,6 +71,10 @@ pub record Laws (n : ℕ) : Type 0 where
       → has k (after slot out into ws) ≡ (has k into || (not (has k out) && (not (slot && eqb (first ws) k) && has k ws)))
 
 pub record InTurn : Type 0 where
+  -- Five kinds can wait: emergency, SDO reply, heartbeat, TPDO1, TPDO2. Several joining in one call join in the order just given.
+  pub five : places ≡ 5
+  pub numbered : (emergency ≡ 1) × (sdoReply ≡ 2) × (heartbeat ≡ 3) × (tpdo1 ≡ 4) × (tpdo2 ≡ 5)
+  pub in-this-order : order ≡ 1 ∷ 2 ∷ 3 ∷ 4 ∷ 5 ∷ []
   -- they keep the list's order
   pub among : (due : ℕ → Bool) (ks : List ℕ) → Among (thoseDue due ks) ks
   -- all that are due, and no others
@@ -62,7 +83,11 @@ pub record InTurn : Type 0 where
   pub named : {n : ℕ} {ks : List ℕ} (due : ℕ → Bool) → Named n ks → Named n (thoseDue due ks)
   pub all-named : Named places order
   -- those who come in a call stand in the order just given
-  pub came-in-turn : (slot : Bool) (due : ℕ → Bool) (out ws : List ℕ) (u : InOrder slot out (thoseDue due order) ws) → Among (u .came) order
+  pub came-in-turn : (slot : Bool) (due : ℕ → Bool) (out ws : List ℕ) (u : InOrder slot out (thoseDue due order) ws)
+      → Among (u .came) (1 ∷ 2 ∷ 3 ∷ 4 ∷ 5 ∷ [])
+  -- each flag is that of the kind with its number
+  pub flags : (a b c d e : Bool) → let due = flagged (a ∷ b ∷ c ∷ d ∷ e ∷ []) in
+      (due 1 ≡ a) × (due 2 ≡ b) × (due 3 ≡ c) × (due 4 ≡ d) × (due 5 ≡ e)
   -- the first joins if it is due, then the others: the code's `join_if`, one after another
   pub one-by-one : (due : ℕ → Bool) (l : List ℕ) (k : ℕ) (ks : List ℕ)
       → joinsIn l (thoseDue due (k ∷ ks)) ≡ joinsIn (joinsIn l (ifDue (due k) k)) (thoseDue due ks)

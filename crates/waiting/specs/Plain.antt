@@ -7,7 +7,7 @@ use mathlib.Core.List.{List, [], _∷_}
 use Rattle.waiting.specs.Line.{places, emergency, sdoReply, heartbeat, tpdo1, tpdo2, has, Kinds}
 use Rattle.waiting.specs.Calls.{after, Named}
 use Rattle.waiting.specs.Worked.{allWait}
-use Rattle.waiting.specs.Trace.{Machine, sent, LeavesBy, Demand3}
+use Rattle.waiting.specs.Trace.{Machine, slots, sent, LeavesBy, Leaves, Demand3, Recorded}
 
 -- What a call withdraws does not join in it.
 abbrev pub Apart : List ℕ → List ℕ → Type 0
@@ -40,8 +40,11 @@ plain n =
       Good = Kinds n;
     }
 
-abbrev pub BySlotN : Type 0
-BySlotN = (n : ℕ) → Demand3 (plain n) n
+pub record BySlotN (n : ℕ) : Type 0 where
+  pub in-turn : Leaves (plain n)
+  pub by-slot-n : Demand3 (plain n) n
+  -- and what the slots sent shows it
+  pub recorded : (b k : ℕ) (ws : List ℕ) (cs : List (Call n)) → LeavesBy (plain n) b k ws cs → Recorded (plain n) b k ws cs
 
 -- All wait, the emergency last. TPDO1 is withdrawn, and joins again in a later call, as does TPDO2 once it is sent.
 module _ (m : Named places (emergency ∷ [])) (a : Apart (tpdo1 ∷ []) (emergency ∷ [])) (m′ : Named places (tpdo1 ∷ tpdo2 ∷ [])) (a′ : Apart [] (tpdo1 ∷ tpdo2 ∷ [])) where
@@ -55,4 +58,5 @@ pub record Example : Type 0 where
   pub again : Named places (tpdo1 ∷ tpdo2 ∷ [])
   pub none-out : Apart [] (tpdo1 ∷ tpdo2 ∷ [])
   pub leaves : LeavesBy (plain places) places emergency allWait (calls kept other again none-out)
+  pub five-slots : slots (plain places) (calls kept other again none-out) ≡ 5
   pub all-sent : sent (plain places) allWait (calls kept other again none-out) ≡ tpdo2 ∷ heartbeat ∷ sdoReply ∷ emergency ∷ tpdo1 ∷ []

@@ -9,6 +9,10 @@ ghost use Rattle.cases.specs.Padded.{pad};
 ghost use Rattle.waiting.specs.Line.{places, order, has, first as firstOf};
 ghost use Rattle.waiting.specs.Places.{joinIn, withdrawIn, takenIn, waiting, Holds};
 ghost use Rattle.waiting.specs.Calls.{ifDue, joinsIn, withdrawsIn, thoseDue, flagged};
+ghost use Rattle.waiting.specs.Laws.{Lines, Laws, InTurn};
+ghost use Rattle.waiting.specs.Plain.{BySlotN, Example};
+ghost use Rattle.waiting.specs.Worked.{Worked};
+ghost use Prim.Native.Nat.{ℕ};
 
 // The kinds. Several that join in one call join in the order of these numbers.
 pub const EMERGENCY: u8 = 1;
@@ -150,3 +154,8 @@ pub fn withdraw_those(line: Line, goes: Flags) -> Line
     let left = withdraw_if(left, goes[3], TPDO1);
     withdraw_if(left, goes[4], TPDO2)
 }
+
+// It does nothing: what it ensures are the statements of the crate, so that the crate is proved only if they are.
+fn statements()
+    ensures { λ r. ⌜ Lines × ((n : ℕ) → Laws n) × InTurn × ((n : ℕ) → BySlotN n) × Example × Worked ⌝ }
+{}
