@@ -30,8 +30,9 @@ use Rattle.dictionary.specs.Laws.{Takes}
 use Rattle.dictionary.proofs.Accepted.{taken}
 use Rattle.dictionary.proofs.Columns.{at-place, row-of}
 use Rattle.dictionary.proofs.Laws.{laws}
-use Rattle.dictionary.proofs.Those.{those, at-each}
+use Rattle.dictionary.proofs.Those.{at-each}
 use Rattle.dictionary.specs.Effects.{given, effects, anew, readBack, EffectLaws}
+use Rattle.dictionary.specs.AcceptedLaws.{those}
 
 -- what an entry reads after the write, and what the effects say
 abbrev after : Device → Bool → ℕ → ℕ → Entry → Shown

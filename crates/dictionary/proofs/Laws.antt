@@ -1,11 +1,16 @@
 -- The laws of specs/Laws, collected; the second index by computation. Assumes nothing.
 use Prim.Native.Nat.{ℕ}
-use mathlib.Core.Path.{_≡_, refl, _∙_, ap}
-use mathlib.Core.Bool.{Bool}
+use lib.ListN.{getD, List·getD-map}
+use mathlib.Core.Path.{_≡_, refl, sym, _∙_, ap}
+use mathlib.Core.Bool.{Bool, false}
+use mathlib.Core.List.{List}
 use mathlib.Core.Option.{some}
 use Rattle.entries.specs.declared.Device.{Device}
 use Rattle.entries.specs.declared.table.Found.the-variants.{At}
-use Rattle.entries.specs.Table.{entries, table, lookup}
+use Rattle.entries.specs.declared.table.Row.{Row}
+use Rattle.entries.specs.Table.{entries, table, noRow, rowAt, index, sub, width, isRw, lookup}
+use Rattle.entries.specs.Laws.{columns}
+use Rattle.entries.proofs.Laws.{laws as entries-laws}
 use Rattle.dictionary.specs.declared.read.Shown.{Shown}
 use Rattle.dictionary.specs.declared.read.Shown.the-variants.{Number}
 use Rattle.dictionary.specs.Reads.{shownAt, readOf}
@@ -15,6 +20,15 @@ use Rattle.dictionary.proofs.Factory.{factory-valid}
 use Rattle.dictionary.proofs.Valid.{written-fits, written-valid}
 use Rattle.dictionary.proofs.ReadBack.{reads-back}
 use Rattle.dictionary.proofs.Typed.{typed}
+
+abbrev Columns : Type 0
+Columns = ℕ × ℕ × ℕ × Bool
+
+abbrev columnsOf : Row → Columns
+columnsOf r = (index r, sub r, width r, isRw r)
+
+rows : (p : ℕ) → columnsOf (rowAt p) ≡ getD columns p (0, 0, 0, false)
+rows p = sym (List·getD-map columnsOf table p noRow) ∙ ap (λ (l : List Columns). getD l p (0, 0, 0, false)) (entries-laws .all-of-them)
 
 -- what stands at the place that is found
 pub shows : (d : Device) (o : Bool) (i j : ℕ) {p : ℕ} {s : Shown} → lookup i j ≡ At p → shownAt d o p ≡ s → Shows d o i j s
@@ -32,6 +46,7 @@ second-writes d v = refl
 pub laws : Laws
 laws =
     record {
+      rows = rows;
       factory-valid = factory-valid;
       written-valid = written-valid;
       written-fits = written-fits;

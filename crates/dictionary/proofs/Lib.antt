@@ -1,10 +1,15 @@
 pub mod Accepted
+pub mod Tested
+pub mod AcceptedLaws
+pub mod ValidLaws
 pub mod Columns
 pub mod Those
+pub mod WriteLaws
 pub mod Factory
 pub mod Valid
 pub mod Typed
 pub mod ReadBack
 pub mod Laws
+pub mod ReadLaws
 pub mod Effects
 pub mod Worked

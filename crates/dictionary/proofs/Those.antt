@@ -7,11 +7,7 @@ use mathlib.Core.Bool.{Bool, true, false, cond}
 use mathlib.Core.List.{List, [], _∷_}
 use lib.ListN.{length, getD}
 use Rattle.cases.proofs.Cases.{true-false, Each, _▸_}
-
--- those that pass a test
-abbrev pub those : {A : Type 0} → (A → Bool) → List A → List A
-those t [] = []
-those t (a ∷ l) = cond (t a) (a ∷ those t l) (those t l)
+use Rattle.dictionary.specs.AcceptedLaws.{those}
 
 module _ {A : Type 0} (P : A → Type 0) where
   first : (t : Bool) (a : A) (l : List A) → t ≡ true → Each P (cond t (a ∷ l) l) → P a

@@ -19,8 +19,9 @@ use Rattle.entries.specs.Table.{Entry, missing, entries, table, rowAt}
 use Rattle.dictionary.specs.Accepted.{transmissionType}
 use Rattle.dictionary.specs.Reads.{noEntry}
 use Rattle.dictionary.specs.Valid.{ValidDevice}
+use Rattle.dictionary.specs.AcceptedLaws.{those}
 use Rattle.dictionary.proofs.Columns.{row-of}
-use Rattle.dictionary.proofs.Those.{those, at-each}
+use Rattle.dictionary.proofs.Those.{at-each}
 
 at-most : {n b c : ℕ} → n ≤ b → T (ltb b c) → n < c
 at-most {n} {b} {c} h t = omega (arith, lit< {m = b} {n = c} t)

@@ -17,15 +17,16 @@ use Rattle.entries.specs.declared.Settings.{Settings}
 use Rattle.entries.specs.declared.Device.{Device}
 use Rattle.entries.specs.declared.table.Row.{Row}
 use Rattle.entries.specs.Settings.{pdo}
-use Rattle.entries.specs.Table.{missing, entries, table, noRow, rowAt, key}
-use Rattle.entries.specs.Keys.{errorCountKey, saveKey, loadKey, tpdo1, tpdo2, rangeKey, presetKey, stepKey}
-use Rattle.dictionary.specs.Accepted.{emergencyIdentifier, pdoIdentifier, transmissionType, operatingParameters, pdoBarred, accepts}
+use Rattle.entries.specs.Table.{entries, table, noRow, rowAt, key}
+use Rattle.entries.specs.Keys.{errorCountKey, saveKey, loadKey, rangeKey, presetKey, stepKey}
+use Rattle.dictionary.specs.Accepted.{emergencyIdentifier, pdoIdentifier, transmissionType, operatingParameters, accepts}
 use Rattle.dictionary.specs.Accepted.{acceptsIn}
 use Rattle.dictionary.specs.Writes.{rangeFor, rescaledTo, written, Fits}
 use Rattle.dictionary.specs.Valid.{ValidPdo, ValidCommunication, ValidSettings, ValidDevice}
 use Rattle.dictionary.specs.Laws.{Takes}
+use Rattle.dictionary.specs.AcceptedLaws.{those}
 use Rattle.dictionary.proofs.Accepted.{taken}
-use Rattle.dictionary.proofs.Those.{those, at-each}
+use Rattle.dictionary.proofs.Those.{at-each}
 use Rattle.dictionary.proofs.Factory.{factory-valid}
 
 -- a number of that length is one of its type
@@ -191,12 +192,8 @@ module _ (d : Device) (p v : ℕ) (t : Takes d p v) where
   known =
       let k = key (rowAt p) in
       let scaling = (eqb k rangeKey || eqb k stepKey) && not (bit scalingBit (d .settings .profile .operating)) in
-      let preset = eqb k presetKey && missing d in
-      let pdo1 = pdoBarred tpdo1 (d .settings .communication .pdo1) k v in
-      let pdo2 = pdoBarred tpdo2 (d .settings .communication .pdo2) k v in
       let u = taken d (rowAt p) v (t .unaborted) in
-      let free = neither (scaling || preset || pdo1) pdo2 (u .1) .0 in
-      record { long = t .long; accepted = u .0; scaling = neither scaling preset (neither (scaling || preset) pdo1 free .0) .0 }
+      record { long = t .long; accepted = u .0; scaling = neither scaling _ (neither _ _ (neither _ _ (u .1) .0) .0) .0 }
 
   pub written-fits : Fits (d .settings .profile) (key (rowAt p)) v
   unfolding Below

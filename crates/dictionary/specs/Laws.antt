@@ -3,11 +3,12 @@
 use Prim.Native.Nat.{ℕ, _^_, _≤_, _<_}
 use lib.ListN.{length, getD}
 use mathlib.Core.Path.{_≡_}
-use mathlib.Core.Bool.{Bool, true, cond}
+use mathlib.Core.Bool.{Bool, true, false, cond}
 use mathlib.Core.Option.{some}
 use Rattle.entries.specs.declared.Device.{Device}
 use Rattle.entries.specs.Settings.{factory}
-use Rattle.entries.specs.Table.{entries, table, rowAt, width, isRw, accepted, key}
+use Rattle.entries.specs.Table.{entries, table, rowAt, index, sub, width, isRw, accepted, key}
+use Rattle.entries.specs.Laws.{columns}
 use Rattle.dictionary.specs.declared.read.Shown.{Shown}
 use Rattle.dictionary.specs.declared.read.Shown.the-variants.{Number}
 use Rattle.dictionary.specs.Accepted.{isSignature, abortCode}
@@ -27,6 +28,8 @@ abbrev pub Shows : Device → Bool → ℕ → ℕ → Shown → Type 0
 Shows d o i j s = reads d o i j ≡ some s
 
 pub record Laws : Type 0 where
+  -- The row at each place is 01's: index, sub-index, bytes, access.
+  pub rows : (p : ℕ) → (index (rowAt p), sub (rowAt p), width (rowAt p), isRw (rowAt p)) ≡ getD columns p (0, 0, 0, false)
   -- The factory settings are valid, at each node number 1..127.
   pub factory-valid : (n : ℕ) → 1 ≤ n → n ≤ 127 → ValidSettings n (factory n)
   -- An accepted write leaves a valid device,

@@ -4,5 +4,9 @@ pub mod Reads
 pub mod Writes
 pub mod Valid
 pub mod Laws
+pub mod AcceptedLaws
+pub mod ValidLaws
+pub mod ReadLaws
+pub mod WriteLaws
 pub mod Effects
 pub mod Worked

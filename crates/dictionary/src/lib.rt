@@ -1,3 +1,15 @@
 //! The object dictionary: what each entry reads, which values it takes, and what a write does. Types and laws, no functions.
+ghost use Rattle.dictionary.specs.AcceptedLaws.{AcceptedLaws};
+ghost use Rattle.dictionary.specs.ValidLaws.{ValidLaws};
+ghost use Rattle.dictionary.specs.WriteLaws.{WriteLaws};
+ghost use Rattle.dictionary.specs.ReadLaws.{ReadLaws};
+ghost use Rattle.dictionary.specs.Laws.{Laws};
+ghost use Rattle.dictionary.specs.Effects.{EffectLaws};
+ghost use Rattle.dictionary.specs.Worked.{Worked};
 
 pub mod read;
+
+// It does nothing: what it ensures are the statements of the crate, so that the crate is proved only if they are.
+fn statements()
+    ensures { λ r. ⌜ AcceptedLaws × ValidLaws × WriteLaws × ReadLaws × Laws × EffectLaws × Worked ⌝ }
+{}

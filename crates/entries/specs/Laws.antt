@@ -1,14 +1,14 @@
 -- What holds of the table and of every index and sub-index: its order, and what is found.
 -- 01, chapter "Entries".
-use Prim.Native.Nat.{ℕ, _<_}
+use Prim.Native.Nat.{ℕ, _+_, _*_, _<_}
 use lib.Dec.{ltb}
 use lib.ListN.{length}
 use mathlib.Core.Path.{_≡_}
 use mathlib.Core.Logic.{_↔_}
-use mathlib.Core.Bool.{Bool, true, _&&_}
+use mathlib.Core.Bool.{Bool, true, false, _&&_}
 use mathlib.Core.List.{List, [], _∷_, map}
 use Rattle.entries.specs.declared.table.Found.the-variants.{At, NoSubIndex, NoIndex}
-use Rattle.entries.specs.Table.{table, rowAt, index, sub, key, lookup}
+use Rattle.entries.specs.Table.{table, rowAt, index, sub, width, isRw, key, lookup}
 
 abbrev pub HasIndex : ℕ → ℕ → Type 0
 HasIndex p i = (p < length table) × (index (rowAt p) ≡ i)
@@ -31,7 +31,60 @@ abbrev pub risesFrom : ℕ → List ℕ → Bool
 risesFrom a [] = true
 risesFrom a (b ∷ l) = ltb a b && risesFrom b l
 
+-- 01's table "Entries", its first two columns: index, sub-index, the type's bytes, and whether it is rw.
+abbrev pub columns : List (ℕ × ℕ × ℕ × Bool)
+columns =
+    (0x1000, 0, 4, false) ∷
+    (0x1001, 0, 1, false) ∷
+    (0x1003, 0, 1, true) ∷
+    (0x1003, 1, 4, false) ∷
+    (0x1003, 2, 4, false) ∷
+    (0x1003, 3, 4, false) ∷
+    (0x1003, 4, 4, false) ∷
+    (0x1005, 0, 4, false) ∷
+    (0x1010, 0, 1, false) ∷
+    (0x1010, 1, 4, true) ∷
+    (0x1011, 0, 1, false) ∷
+    (0x1011, 1, 4, true) ∷
+    (0x1014, 0, 4, true) ∷
+    (0x1015, 0, 2, true) ∷
+    (0x1017, 0, 2, true) ∷
+    (0x1018, 0, 1, false) ∷
+    (0x1018, 1, 4, false) ∷
+    (0x1018, 2, 4, false) ∷
+    (0x1018, 3, 4, false) ∷
+    (0x1018, 4, 4, false) ∷
+    (0x1800, 0, 1, false) ∷
+    (0x1800, 1, 4, true) ∷
+    (0x1800, 2, 1, true) ∷
+    (0x1800, 5, 2, true) ∷
+    (0x1801, 0, 1, false) ∷
+    (0x1801, 1, 4, true) ∷
+    (0x1801, 2, 1, true) ∷
+    (0x1801, 5, 2, true) ∷
+    (0x1A00, 0, 1, false) ∷
+    (0x1A00, 1, 4, false) ∷
+    (0x1A01, 0, 1, false) ∷
+    (0x1A01, 1, 4, false) ∷
+    (0x6000, 0, 2, true) ∷
+    (0x6002, 0, 4, true) ∷
+    (0x6003, 0, 4, true) ∷
+    (0x6004, 0, 4, false) ∷
+    (0x6005, 0, 1, false) ∷
+    (0x6005, 1, 4, true) ∷
+    (0x6200, 0, 2, true) ∷
+    (0x6500, 0, 2, false) ∷
+    (0x6501, 0, 4, false) ∷
+    (0x6503, 0, 2, false) ∷
+    (0x6504, 0, 2, false) ∷
+    (0x6509, 0, 4, false) ∷
+    []
+
 pub record Laws : Type 0 where
+  -- the entries, all of them, and none else
+  pub all-of-them : map (λ r. (index r, sub r, width r, isRw r)) table ≡ columns
+  -- the number that names an entry elsewhere: 6003-0 is 0x6003_00
+  pub keys : (p : ℕ) → key (rowAt p) ≡ index (rowAt p) * 256 + sub (rowAt p)
   pub finds : (i j : ℕ) → Finds i j
   -- in index order, so that each entry stands once
   pub rising : risesFrom 0 (map key table) ≡ true

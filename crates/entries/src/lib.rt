@@ -1,6 +1,7 @@
 //! The settings and their factory values, the device that the entries show, and the table of entries.
 ghost use mathlib.Core.Path.{_≡_};
 ghost use Rattle.entries.specs.Settings.{factory as factorySettings};
+ghost use Rattle.entries.specs.Laws.{Laws};
 use position::FULL_RANGE;
 use position::Profile;
 
@@ -87,3 +88,8 @@ pub struct Device {
     pub settings: Settings,
     pub saved: Settings,
 }
+
+// It does nothing: what it ensures are the statements of the crate, so that the crate is proved only if they are.
+fn statements()
+    ensures { λ r. ⌜ Laws ⌝ }
+{}
