@@ -18,7 +18,7 @@ use Rattle.dictionary.specs.declared.read.Shown.the-variants.{Blank, Number}
 use Rattle.dictionary.specs.Reads.{shownAt}
 use Rattle.dictionary.specs.Accepted.{acceptsIn, isSignature, barred, abortCode}
 use Rattle.dictionary.specs.AbortCodes.{invalidValue, wrongSignature, deviceState}
-use Rattle.sdo.specs.AbortCodes.{readOnly, tooLong, tooShort, noData}
+use Rattle.sdo.specs.AbortCodes.{readOnly, tooLong, tooShort, shownCode}
 use Rattle.sdo.specs.Request.{byte, indexOf, subOf, dataOf, aborting, reading, writing, takenApart}
 use Rattle.sdo.specs.Reply.{noReply, confirmed, aborted, shownReply}
 use Rattle.sdo.specs.Service.{value, confirmation, abort, answer, isBlank, numberIn, lengthOf, cutTo, dueOf, due}
@@ -59,7 +59,7 @@ length-is true b w =
     rw (ne-eqb (4 - b % 4) 0 (λ e. omega arith))
 length-is false b w = rw (le-ltb w w (omega arith))
 
-read-due : (f : List ℕ) (w : ℕ) (x : Shown) → shownReply f w x ≡ answer f (cond (isBlank x) (abort noData) (value w (numberIn x)))
+read-due : (f : List ℕ) (w : ℕ) (x : Shown) → shownReply f w x ≡ answer f (cond (isBlank x) (abort (shownCode Blank)) (value w (numberIn x)))
 read-due f w Blank = refl
 read-due f w (Number n) = refl
 

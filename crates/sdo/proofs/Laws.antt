@@ -2,36 +2,49 @@
 use Prim.Native.Nat.{ℕ, _+_, _-_, _/_, _%_, _^_, _≤_, _<_}
 use native.Mathlib.Omega.{arith}
 use mathlib.Core.Path.{_≡_, refl, sym, ap, _∙_}
+use mathlib.Core.Logic.{_↔_, inl, inr}
 use mathlib.Core.Bool.{Bool, true, false, not, cond}
 use mathlib.Core.List.{List, _∷_, _++_}
 use lib.Dec.{eqb}
-use lib.ListN.{getD, replicate}
-use borrow.Author.Tests.{eqb-true, le-ltb}
+use lib.ListN.{length, getD, drop, replicate}
+use borrow.Author.Tests.{eqb-true, ne-eqb, le-ltb, not-false}
 use Rattle.cases.proofs.Cases.{by, test, true-false, both, first-each, _▸_, end}
 use Rattle.can.specs.Number.{lowFirst}
 use Rattle.can.proofs.Number.{numbers}
 use Rattle.entries.specs.declared.Device.{Device}
 use Rattle.entries.specs.declared.table.Found.{Found}
 use Rattle.entries.specs.declared.table.Found.the-variants.{At, NoSubIndex, NoIndex}
-use Rattle.entries.specs.Table.{entries, rowAt, key, lookup}
+use Rattle.entries.specs.Table.{entries, table, rowAt, width, key, lookup}
 use Rattle.dictionary.specs.declared.read.Shown.the-variants.{Blank, Number}
 use Rattle.dictionary.specs.Reads.{noEntry, shownAt}
 use Rattle.dictionary.specs.Valid.{ValidDevice}
 use Rattle.dictionary.specs.Laws.{Takes}
-use Rattle.dictionary.proofs.Accepted.{taken}
+use Rattle.dictionary.proofs.Accepted.{taken as accepted}
 use Rattle.dictionary.proofs.Laws.{laws as dictionaryLaws}
+use Rattle.sdo.specs.declared.reply.Effect.the-variants.{Write}
 use Rattle.sdo.specs.Request.{byte, top, indexOf, subOf, dataOf, aborting, reading, writing}
 use Rattle.sdo.specs.Reply.{command, replies, carriedOut}
-use Rattle.sdo.specs.Service.{Due, none, value, confirmation, abort, answer, lengthOf, cutTo, rowOf, steps, dueOf, due}
-use Rattle.sdo.specs.Laws.{Told, Alike, Laws}
-use Rattle.sdo.proofs.Told.{told, type-at, four-at-most}
+use Rattle.sdo.specs.Service.{Due, none, value, confirmation, abort, answer, lengthOf, cutTo, steps, dueOf, due}
+use Rattle.sdo.specs.Exactly.{ClientAborts, firstData}
+use Rattle.sdo.specs.Laws.{Told, Alike, Answers, served, Laws}
+use Rattle.sdo.proofs.Place.{entry}
+use Rattle.sdo.proofs.Told.{told}
+use Rattle.sdo.proofs.Taken.{taken}
+use Rattle.sdo.proofs.Exactly.{exactly, only}
+use Rattle.sdo.proofs.Width.{each-width}
 
 module _ (d : Device) (o : Bool) (f : List ℕ) where
-  unaltered-by : (x : Due) → (byte (answer f x .bytes) 0 ≡ 0x60 → ⊥) → carriedOut d (answer f x .effect) ≡ d
+  unaltered-by : (x : Due) → (getD (answer f x .bytes) 0 0 ≡ 0x60 → ⊥) → carriedOut d (answer f x .effect) ≡ d
   unaltered-by none h = refl
   unaltered-by (value w n) h = refl
   unaltered-by (confirmation k v) h = absurd (h refl)
   unaltered-by (abort c) h = refl
+
+  writes-by : (x : Due) (k v : ℕ) → answer f x .effect ≡ Write k v → x ≡ confirmation k v
+  writes-by none k v e = absurd (let z : _≡_ {A = ℕ} 0 1 = cc in omega arith)
+  writes-by (value w n) k v e = absurd (let z : _≡_ {A = ℕ} 0 1 = cc in omega arith)
+  writes-by (confirmation i j) k v e = cc
+  writes-by (abort c) k v e = absurd (let z : _≡_ {A = ℕ} 0 1 = cc in omega arith)
 
   valid-by : (x : Found) (y : Due) → Told d o f x y → ValidDevice d → ValidDevice (carriedOut d (answer f y .effect))
   valid-by x none t h = h
@@ -51,7 +64,7 @@ module _ (d : Device) (o : Bool) (f : List ℕ) where
       by (λ y. replies (answer f y .effect) ≡ not (aborting f)) (aborting f)
       (λ e. rw e)
       (λ e. rw e (first-each (λ y. replies (answer f y .effect) ≡ true) (steps d o f x) _
-      (refl ▸ refl ▸ refl ▸ refl ▸ refl ▸ refl ▸ refl ▸ refl ▸ refl ▸ refl ▸ refl ▸ end) refl))
+      (refl ▸ refl ▸ refl ▸ refl ▸ refl ▸ refl ▸ refl ▸ refl ▸ refl ▸ refl ▸ end) refl))
 
   replied : replies (answer f (due d o f) .effect) ≡ not (aborting f)
   unfolding due
@@ -68,9 +81,52 @@ module _ (d : Device) (o : Bool) (f : List ℕ) where
       let e = getD entries (t .place) noEntry in
       let m : e .number d o ≡ n = number-is (e .blank d) (e .number d o) n (t .shown) in
       let fits : n < 256 ^ w = rw (← m, t .its-width) (dictionaryLaws .typed d o (t .place) (t .stands) h) in
-      let short : w ≤ 4 = rw (t .its-width) (four-at-most _ _ _ _ refl refl refl (type-at (t .place) (t .stands))) in
+      let short : w ≤ 4 = rw (t .its-width) (each-width (λ k. k ≤ 4) (omega arith) (omega arith) (omega arith) (t .place) (t .stands)) in
       let four : w + (4 - w) ≡ 4 = omega arith in
       ap (λ (k : ℕ). lowFirst k n) (sym four) ∙ numbers .unused w (4 - w) n fits
+
+-- the first byte of a value's reply, for each width
+abbrev Answers-by : ℕ → Type 0
+Answers-by w = Answers w (command w)
+
+one : Answers-by 1
+one =
+    record {
+      widths = inl refl;
+      top = refl;
+      bit4 = refl;
+      length = refl;
+      low = refl;
+      one = λ e. refl;
+      two = λ e. omega arith;
+      four = λ e. omega arith;
+    }
+
+two : Answers-by 2
+two =
+    record {
+      widths = inr (inl refl);
+      top = refl;
+      bit4 = refl;
+      length = refl;
+      low = refl;
+      one = λ e. omega arith;
+      two = λ e. refl;
+      four = λ e. omega arith;
+    }
+
+four : Answers-by 4
+four =
+    record {
+      widths = inr (inr refl);
+      top = refl;
+      bit4 = refl;
+      length = refl;
+      low = refl;
+      one = λ e. omega arith;
+      two = λ e. omega arith;
+      four = λ e. refl;
+    }
 
 -- a read is nothing else, nor is a write
 is-read : (f : List ℕ) → reading f ≡ true → (aborting f ≡ false) × (writing f ≡ false)
@@ -78,6 +134,18 @@ is-read f e = let t = eqb-true (top f) 2 e in (rw t, rw t)
 
 is-write : (f : List ℕ) → writing f ≡ true → (aborting f ≡ false) × (reading f ≡ false)
 is-write f e = let t = eqb-true (top f) 1 (both (eqb (top f) 1) (eqb (byte f 0 / 2 % 2) 1) e .0) in (rw t, rw t)
+
+nth : (k : ℕ) {a b : List ℕ} → a ≡ b → getD a k 0 ≡ getD b k 0
+nth k e = ap (λ (l : List ℕ). getD l k 0) e
+
+-- data past the entry's length do not alter the value
+same-cut : (f g : List ℕ) (p : ℕ) → p < length table → firstData (width (rowAt p)) f ≡ firstData (width (rowAt p)) g
+    → cutTo (rowAt p .2) (dataOf f) ≡ cutTo (rowAt p .2) (dataOf g)
+same-cut f g =
+    each-width (λ w. firstData w f ≡ firstData w g → cutTo w (dataOf f) ≡ cutTo w (dataOf g))
+    (λ e. omega (arith, nth 0 e))
+    (λ e. omega (arith, nth 0 e, nth 1 e))
+    (λ e. omega (arith, nth 0 e, nth 1 e, nth 2 e, nth 3 e))
 
 module _ (d : Device) (o : Bool) (f g : List ℕ) (l : Alike f g) where
   same-reading : reading f ≡ reading g
@@ -96,33 +164,41 @@ module _ (d : Device) (o : Bool) (f g : List ℕ) (l : Alike f g) where
   same-length w true e t = rw (← l .bit0 t, e, l .lengths t (eqb-true _ _ e))
   same-length w false e t = rw (← l .bit0 t, e)
 
-  same-due : (x : Found) (r w : Bool) → reading f ≡ r → writing f ≡ w → dueOf d o f x ≡ dueOf d o g x
-  same-due x true true p q = true-false (sym q ∙ is-read f p .1)
-  same-due NoIndex true false p q = rw (← same-aborting, ← same-reading, p)
-  same-due NoSubIndex true false p q = rw (← same-aborting, ← same-reading, p)
-  same-due (At k) true false p q = rw (← same-aborting, ← same-reading, ← same-writing, p, q)
-  same-due x false true p q =
+  same-due : (x : Found) (r w : Bool) → reading f ≡ r → writing f ≡ w → lookup (indexOf f) (subOf f) ≡ x → dueOf d o f x ≡ dueOf d o g x
+  same-due (At k) true true p q s = true-false (sym q ∙ is-read f p .1)
+  same-due NoIndex r w p q s = rw (← same-aborting, ← same-reading, ← same-writing)
+  same-due NoSubIndex r w p q s = rw (← same-aborting, ← same-reading, ← same-writing)
+  same-due (At k) true false p q s = rw (← same-aborting, ← same-reading, ← same-writing, p, q)
+  same-due (At k) false true p q s =
       let t = eqb-true (top f) 1 (both (eqb (top f) 1) (eqb (byte f 0 / 2 % 2) 1) q .0) in
-      rw (← same-aborting, ← same-reading, ← same-writing, p, q, ← l .contents t, ← same-length (rowOf x .2) _ refl t)
-  same-due x false false p q = rw (← same-aborting, ← same-reading, ← same-writing, p, q)
+      let e = entry f k s in
+      rw (← same-aborting, ← same-reading, ← same-writing, p, q)
+      (rw (same-cut f g k (e .0 .0) (l .contents t k e), ← same-length (rowAt k .2) _ refl t))
+  same-due (At k) false false p q s = rw (← same-aborting, ← same-reading, ← same-writing, p, q)
 
 module _ (d : Device) (o : Bool) (f : List ℕ) where
   abbrev asked : Found
   asked = lookup (indexOf f) (subOf f)
 
-  repeated : aborting f ≡ false
-      → let r = answer f (due d o f) .bytes in (byte r 1 ≡ byte f 1) × (byte r 2 ≡ byte f 2) × (byte r 3 ≡ byte f 3)
-  repeated e = replied-by d o f (due d o f) (replied d o f ∙ rw e)
+  no-reply : (replies (served d o f .effect) ≡ false) ↔ ClientAborts f
+  no-reply = (λ e. eqb-true _ _ (not-false _ (sym (replied d o f) ∙ e)), λ t. replied d o f ∙ rw t)
+
+  no-effect : ClientAborts f → carriedOut d (served d o f .effect) ≡ d
+  unfolding due
+  no-effect t = rw t
+
+  repeated : (ClientAborts f → ⊥)
+      → let r = served d o f .bytes in (byte r 1 ≡ byte f 1) × (byte r 2 ≡ byte f 2) × (byte r 3 ≡ byte f 3)
+  repeated e = replied-by d o f (due d o f) (replied d o f ∙ rw (ne-eqb _ _ e))
+
+  answers : (w n : ℕ) → due d o f ≡ value w n → Answers w (getD (served d o f .bytes) 0 0)
+  answers w n e = let t = rw e at (told d o f) in rw (e, t .its-width) (each-width Answers-by one two four (t .place) (t .stands))
 
   unused : ValidDevice d → (w n : ℕ) → due d o f ≡ value w n
-      → answer f (due d o f) .bytes ≡ command w ∷ byte f 1 ∷ byte f 2 ∷ byte f 3 ∷ lowFirst w n ++ replicate (4 - w) 0
+      → drop 1 (served d o f .bytes) ≡ byte f 1 ∷ byte f 2 ∷ byte f 3 ∷ lowFirst w n ++ replicate (4 - w) 0
   unused h w n e =
       let t = rw e at (told d o f) in
-      rw e (ap (λ (l : List ℕ). command w ∷ byte f 1 ∷ byte f 2 ∷ byte f 3 ∷ l) (unused-by d o f asked w n t h))
-
-  unused-confirming : (k v : ℕ) → due d o f ≡ confirmation k v
-      → answer f (due d o f) .bytes ≡ 0x60 ∷ byte f 1 ∷ byte f 2 ∷ byte f 3 ∷ replicate 4 0
-  unused-confirming k v e = rw e
+      rw e (ap (λ (l : List ℕ). byte f 1 ∷ byte f 2 ∷ byte f 3 ∷ l) (unused-by d o f asked w n t h))
 
   values : (p n : ℕ) → reading f ≡ true → asked ≡ At p → shownAt d o p ≡ Number n → due d o f ≡ value (rowAt p .2) n
   unfolding due
@@ -132,24 +208,32 @@ module _ (d : Device) (o : Bool) (f : List ℕ) where
       → Takes d p (cutTo (rowAt p .2) (dataOf f)) → due d o f ≡ confirmation (key (rowAt p)) (cutTo (rowAt p .2) (dataOf f))
   unfolding due
   confirms p e q l t =
-      let free = taken d (rowAt p) (cutTo (rowAt p .2) (dataOf f)) (t .unaborted) in
+      let free = accepted d (rowAt p) (cutTo (rowAt p .2) (dataOf f)) (t .unaborted) in
       rw (q, is-write f e .0, is-write f e .1, e, free .0, free .1, t .writable, l, le-ltb (rowAt p .2) (rowAt p .2) (omega arith))
 
   reserved : (g : List ℕ) → Alike f g → due d o f ≡ due d o g
   unfolding due
-  reserved g l = rw (← l .indices, ← l .subs) (same-due d o f g l asked _ _ refl refl)
+  reserved g l = rw (← l .low-index, ← l .high-index, ← l .subs) (same-due d o f g l asked _ _ refl refl refl)
 
   pub laws : Laws d o f
   laws =
       record {
+        taken = taken f;
+        exactly = exactly d o f;
+        only = only d o f;
         told = told d o f;
-        replied = replied d o f;
-        repeated = repeated;
         values = values;
         confirms = confirms;
-        unused-confirming = unused-confirming;
+        no-reply = no-reply;
+        no-effect = no-effect;
+        replied = replied d o f;
+        repeated = repeated;
+        answers = answers;
         unused = unused;
+        unused-confirming = λ k v e. rw e;
         aborts = λ c e. rw e;
+        writes = λ k v. (writes-by d o f (due d o f) k v, λ e. rw e);
+        carries = λ k v e. rw e;
         unaltered = unaltered-by d o f (due d o f);
         valid = valid-by d o f asked (due d o f) (told d o f);
         reserved = reserved;

@@ -1,5 +1,10 @@
 pub mod Place
+pub mod Width
+pub mod Taken
 pub mod Due
+pub mod Ways
 pub mod Told
+pub mod Signature
+pub mod Exactly
 pub mod Laws
 pub mod Worked

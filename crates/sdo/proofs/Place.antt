@@ -1,21 +1,32 @@
--- What is found is a place of the table.
-use Prim.Native.Nat.{ℕ, _<_}
-use mathlib.Core.Path.{_≡_}
-use lib.ListN.{length}
+-- What is found is a place of the table, of the index in bytes 1 and 2 and the sub-index in byte 3.
+use Prim.Native.Nat.{ℕ, _+_, _*_, _<_}
+use native.Mathlib.Omega.{arith}
+use mathlib.Core.Path.{_≡_, sym, ap, _∙_}
+use mathlib.Core.List.{List}
+use lib.ListN.{length, getD}
 use Rattle.entries.specs.declared.table.Found.{Found}
-use Rattle.entries.specs.declared.table.Found.the-variants.{At, NoSubIndex, NoIndex}
+use Rattle.entries.specs.declared.table.Found.the-variants.{At}
 use Rattle.entries.specs.Table.{table, lookup}
+use Rattle.entries.specs.Laws.{Finds}
 use Rattle.entries.proofs.Laws.{laws}
+use Rattle.sdo.specs.Request.{indexOf, subOf}
+use Rattle.sdo.specs.Exactly.{EntryStands}
 
 pub stands : (i j p : ℕ) → lookup i j ≡ At p → p < length table
 stands i j p e = laws .finds i j .at p .0 e .0 .0
 
-abbrev pub Within : Found → Type 0
-Within (At p) = p < length table
-Within NoSubIndex = Unit {0}
-Within NoIndex = Unit {0}
+module _ (f : List ℕ) where
+  abbrev pub asked : Found
+  asked = lookup (getD f 1 0 + 256 * getD f 2 0) (getD f 3 0)
 
-pub within : (i j : ℕ) (x : Found) → lookup i j ≡ x → Within x
-within i j (At p) e = stands i j p e
-within i j NoSubIndex e = tt
-within i j NoIndex e = tt
+  pub finds : Finds (getD f 1 0 + 256 * getD f 2 0) (getD f 3 0)
+  finds = laws .finds _ _
+
+  pub index-is : indexOf f ≡ getD f 1 0 + 256 * getD f 2 0
+  index-is = omega arith
+
+  pub found : lookup (indexOf f) (subOf f) ≡ asked
+  found = ap (λ (n : ℕ). lookup n (getD f 3 0)) index-is
+
+  pub entry : (p : ℕ) → lookup (indexOf f) (subOf f) ≡ At p → EntryStands f p
+  entry p e = finds .at p .0 (sym found ∙ e)

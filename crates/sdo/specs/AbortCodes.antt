@@ -1,16 +1,23 @@
--- The abort codes of steps 1 to 4 and 7 of 01's list "First that applies".
+-- The abort codes of steps 1 to 4 and 7 of 01's list "First that applies". Where an answer is an enum, its code is a definition over
+-- its cases, 0 for none.
 use Prim.Native.Nat.{ℕ}
+use Rattle.entries.specs.declared.table.Found.{Found}
+use Rattle.entries.specs.declared.table.Found.the-variants.{At, NoSubIndex, NoIndex}
+use Rattle.dictionary.specs.declared.read.Shown.{Shown}
+use Rattle.dictionary.specs.declared.read.Shown.the-variants.{Blank, Number}
+use Rattle.sdo.specs.declared.request.Request.{Request}
+use Rattle.sdo.specs.declared.request.Request.the-variants.{Asked, UnknownCommand}
 
 -- 1. 0504 0001h: other top bits, or a write with bit 1 clear
-abbrev pub unknownCommand : ℕ
-unknownCommand = 0x05040001
+abbrev pub requestCode : Request → ℕ
+requestCode UnknownCommand = 0x05040001
+requestCode (Asked ask) = 0
 
 -- 2. 0602 0000h no such index; 0609 0011h no such sub-index
-abbrev pub noSuchIndex : ℕ
-noSuchIndex = 0x06020000
-
-abbrev pub noSuchSubIndex : ℕ
-noSuchSubIndex = 0x06090011
+abbrev pub foundCode : Found → ℕ
+foundCode NoIndex = 0x06020000
+foundCode NoSubIndex = 0x06090011
+foundCode (At p) = 0
 
 -- 3. 0601 0002h: write to ro
 abbrev pub readOnly : ℕ
@@ -24,5 +31,6 @@ abbrev pub tooShort : ℕ
 tooShort = 0x06070013
 
 -- 7. 0800 0024h: read of a blank
-abbrev pub noData : ℕ
-noData = 0x08000024
+abbrev pub shownCode : Shown → ℕ
+shownCode Blank = 0x08000024
+shownCode (Number n) = 0

@@ -1,23 +1,28 @@
--- What holds of every request to every device: what a value and a confirmation tell, what a reply leaves out, and what a request
--- leaves as it was.
+-- What holds of every request to every device: when each reply is due, what a value and a confirmation tell, the bytes of the reply,
+-- and what a request leaves as it was. Bytes of requests and replies are spelled here as 01 has them, by place and number.
 use Prim.Native.Nat.{ℕ, _-_, _/_, _%_, _<_}
-use lib.ListN.{length, replicate}
+use lib.ListN.{length, getD, drop, replicate}
 use mathlib.Core.Path.{_≡_}
+use mathlib.Core.Logic.{_↔_, _⊎_}
 use mathlib.Core.Bool.{Bool, true, false, not}
 use mathlib.Core.List.{List, _∷_, _++_}
-use Rattle.can.specs.Number.{lowFirst}
+use Rattle.can.specs.Number.{lowFirst, AreBytes}
 use Rattle.entries.specs.declared.Device.{Device}
 use Rattle.entries.specs.declared.table.Found.{Found}
 use Rattle.entries.specs.declared.table.Found.the-variants.{At}
 use Rattle.entries.specs.Table.{table, rowAt, width, key, lookup}
 use Rattle.dictionary.specs.declared.read.Shown.the-variants.{Number}
 use Rattle.dictionary.specs.Reads.{shownAt}
+use Rattle.dictionary.specs.Writes.{written}
 use Rattle.dictionary.specs.Valid.{ValidDevice}
 use Rattle.dictionary.specs.Laws.{Takes}
+use Rattle.sdo.specs.declared.reply.Effect.the-variants.{Write}
 use Rattle.sdo.specs.declared.reply.Served.{Served}
-use Rattle.sdo.specs.Request.{byte, top, indexOf, subOf, dataOf, reading, writing, aborting}
-use Rattle.sdo.specs.Reply.{command, replies, carriedOut}
+use Rattle.sdo.specs.Request.{indexOf, subOf, dataOf, reading, writing, aborting}
+use Rattle.sdo.specs.Reply.{replies, carriedOut}
 use Rattle.sdo.specs.Service.{Due, none, value, confirmation, abort, answer, lengthOf, cutTo, due}
+use Rattle.sdo.specs.Exactly.{ClientAborts, EntryStands, firstData, Exactly}
+use Rattle.sdo.specs.Taken.{Taken}
 
 -- A value is due to a read: it is that of the entry asked for, which is not blank.
 pub record Valued (d : Device) (o : Bool) (f : List ℕ) (x : Found) (w n : ℕ) : Type 0 where
@@ -45,40 +50,66 @@ Told d o f x (confirmation k v) = Confirmed d f x k v
 Told d o f x (abort code) = Unit {0}
 
 -- What counts of a request: the top three bits, the index and the sub-index; of a write also bits 1 and 0, bits 3..2 where bit 0
--- is set, and the data.
+-- is set, and as many bytes of the data as the entry has. Data past its length are ignored.
 pub record Alike (f g : List ℕ) : Type 0 where
-  pub tops : top f ≡ top g
-  pub indices : indexOf f ≡ indexOf g
-  pub subs : subOf f ≡ subOf g
-  pub bit1 : top f ≡ 1 → byte f 0 / 2 % 2 ≡ byte g 0 / 2 % 2
-  pub bit0 : top f ≡ 1 → byte f 0 % 2 ≡ byte g 0 % 2
-  pub lengths : top f ≡ 1 → byte f 0 % 2 ≡ 1 → byte f 0 / 4 % 4 ≡ byte g 0 / 4 % 4
-  pub contents : top f ≡ 1 → dataOf f ≡ dataOf g
+  pub tops : getD f 0 0 / 32 ≡ getD g 0 0 / 32
+  pub low-index : getD f 1 0 ≡ getD g 1 0
+  pub high-index : getD f 2 0 ≡ getD g 2 0
+  pub subs : getD f 3 0 ≡ getD g 3 0
+  pub bit1 : getD f 0 0 / 32 ≡ 1 → getD f 0 0 / 2 % 2 ≡ getD g 0 0 / 2 % 2
+  pub bit0 : getD f 0 0 / 32 ≡ 1 → getD f 0 0 % 2 ≡ getD g 0 0 % 2
+  pub lengths : getD f 0 0 / 32 ≡ 1 → getD f 0 0 % 2 ≡ 1 → getD f 0 0 / 4 % 4 ≡ getD g 0 0 / 4 % 4
+  pub contents : getD f 0 0 / 32 ≡ 1 → (p : ℕ) → EntryStands f p → firstData (width (rowAt p)) f ≡ firstData (width (rowAt p)) g
+
+-- Read answers 4Fh, 4Bh, 43h for 1, 2, 4 bytes: the top three bits 2, bit 4 clear, 4 less the length in bits 3..2, bits 1 and 0 set.
+pub record Answers (w b : ℕ) : Type 0 where
+  pub widths : (w ≡ 1) ⊎ ((w ≡ 2) ⊎ (w ≡ 4))
+  pub top : b / 32 ≡ 2
+  pub bit4 : b / 16 % 2 ≡ 0
+  pub length : b / 4 % 4 ≡ 4 - w
+  pub low : b % 4 ≡ 3
+  pub one : w ≡ 1 → b ≡ 0x4F
+  pub two : w ≡ 2 → b ≡ 0x4B
+  pub four : w ≡ 4 → b ≡ 0x43
 
 abbrev pub served : Device → Bool → List ℕ → Served
 served d o f = answer f (due d o f)
 
 pub record Laws (d : Device) (o : Bool) (f : List ℕ) : Type 0 where
+  -- A request taken apart is a read, a write, or a reason to abort.
+  pub taken : Taken f
+  -- First that applies: what is due is that, and nothing else is
+  pub exactly : AreBytes f → Exactly d o f (due d o f)
+  pub only : AreBytes f → (x : Due) → Exactly d o f x → x ≡ due d o f
   pub told : Told d o f (lookup (indexOf f) (subOf f)) (due d o f)
-  -- and so the other way: a read of an entry that is not blank gets its value,
+  -- a read of an entry that is not blank gets its value,
   pub values : (p n : ℕ) → reading f ≡ true → lookup (indexOf f) (subOf f) ≡ At p → shownAt d o p ≡ Number n
       → due d o f ≡ value (width (rowAt p)) n
   -- a write that the entry takes is confirmed
   pub confirms : (p : ℕ) → writing f ≡ true → lookup (indexOf f) (subOf f) ≡ At p → lengthOf f (width (rowAt p)) ≡ width (rowAt p)
       → let v = cutTo (width (rowAt p)) (dataOf f) in Takes d p v → due d o f ≡ confirmation (key (rowAt p)) v
   -- 4 abort (no effect, no reply): every other request gets a reply
+  pub no-reply : (replies (served d o f .effect) ≡ false) ↔ ClientAborts f
+  pub no-effect : ClientAborts f → carriedOut d (served d o f .effect) ≡ d
   pub replied : replies (served d o f .effect) ≡ not (aborting f)
   -- bytes 1..3 of the request repeated
-  pub repeated : aborting f ≡ false → let r = served d o f .bytes in (byte r 1 ≡ byte f 1) × (byte r 2 ≡ byte f 2) × (byte r 3 ≡ byte f 3)
+  pub repeated : (ClientAborts f → ⊥)
+      → let r = served d o f .bytes in (getD r 1 0 ≡ getD f 1 0) × (getD r 2 0 ≡ getD f 2 0) × (getD r 3 0 ≡ getD f 3 0)
+  -- Read answers 4Fh, 4Bh, 43h for 1, 2, 4 bytes;
+  pub answers : (w n : ℕ) → due d o f ≡ value w n → Answers w (getD (served d o f .bytes) 0 0)
   -- unused bytes 0: of a value, and of a confirmation
-  pub unused-confirming : (k v : ℕ) → due d o f ≡ confirmation k v
-      → served d o f .bytes ≡ 0x60 ∷ byte f 1 ∷ byte f 2 ∷ byte f 3 ∷ replicate 4 0
   pub unused : ValidDevice d → (w n : ℕ) → due d o f ≡ value w n
-      → served d o f .bytes ≡ command w ∷ byte f 1 ∷ byte f 2 ∷ byte f 3 ∷ lowFirst w n ++ replicate (4 - w) 0
+      → drop 1 (served d o f .bytes) ≡ getD f 1 0 ∷ getD f 2 0 ∷ getD f 3 0 ∷ lowFirst w n ++ replicate (4 - w) 0
+  -- write 60h;
+  pub unused-confirming : (k v : ℕ) → due d o f ≡ confirmation k v
+      → served d o f .bytes ≡ 0x60 ∷ getD f 1 0 ∷ getD f 2 0 ∷ getD f 3 0 ∷ replicate 4 0
   -- abort 80h with the code, low byte first
-  pub aborts : (c : ℕ) → due d o f ≡ abort c → served d o f .bytes ≡ 0x80 ∷ byte f 1 ∷ byte f 2 ∷ byte f 3 ∷ lowFirst 4 c
+  pub aborts : (c : ℕ) → due d o f ≡ abort c → served d o f .bytes ≡ 0x80 ∷ getD f 1 0 ∷ getD f 2 0 ∷ getD f 3 0 ∷ lowFirst 4 c
+  -- what is confirmed is written, and nothing else is;
+  pub writes : (k v : ℕ) → (served d o f .effect ≡ Write k v) ↔ (due d o f ≡ confirmation k v)
+  pub carries : (k v : ℕ) → due d o f ≡ confirmation k v → carriedOut d (served d o f .effect) ≡ written d k v
   -- an aborted write alters no entry, nor does a read: only what is answered 60h alters the device
-  pub unaltered : (byte (served d o f .bytes) 0 ≡ 0x60 → ⊥) → carriedOut d (served d o f .effect) ≡ d
+  pub unaltered : (getD (served d o f .bytes) 0 0 ≡ 0x60 → ⊥) → carriedOut d (served d o f .effect) ≡ d
   -- an accepted write leaves each entry with a value that it accepts
   pub valid : ValidDevice d → ValidDevice (carriedOut d (served d o f .effect))
   -- Reserved bits are ignored: requests alike in what counts get the same

@@ -3,5 +3,7 @@ pub mod AbortCodes
 pub mod Reply
 pub mod Service
 pub mod Steps
+pub mod Exactly
+pub mod Taken
 pub mod Laws
 pub mod Worked

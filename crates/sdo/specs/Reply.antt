@@ -8,7 +8,7 @@ use Rattle.entries.specs.declared.Device.{Device}
 use Rattle.dictionary.specs.declared.read.Shown.{Shown}
 use Rattle.dictionary.specs.declared.read.Shown.the-variants.{Blank, Number}
 use Rattle.dictionary.specs.Writes.{written}
-use Rattle.sdo.specs.AbortCodes.{noData}
+use Rattle.sdo.specs.AbortCodes.{shownCode}
 use Rattle.sdo.specs.declared.reply.Effect.{Effect}
 use Rattle.sdo.specs.declared.reply.Effect.the-variants.{Nothing, Reply, Write}
 use Rattle.sdo.specs.declared.reply.Served.{Served}
@@ -50,5 +50,5 @@ noReply = record { bytes = 0 ∷ 0 ∷ 0 ∷ 0 ∷ 0 ∷ 0 ∷ 0 ∷ 0 ∷ []; e
 
 -- A read of a blank: 0800 0024h
 abbrev pub shownReply : List ℕ → ℕ → Shown → Served
-shownReply f width Blank = aborted f noData
+shownReply f width Blank = aborted f (shownCode Blank)
 shownReply f width (Number n) = answered f width n

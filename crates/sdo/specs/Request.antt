@@ -24,7 +24,12 @@ subOf f = byte f 3
 abbrev pub dataOf : List ℕ → ℕ
 dataOf f = number (byte f 4 ∷ byte f 5 ∷ byte f 6 ∷ byte f 7 ∷ [])
 
--- Top three bits of byte 0: 2 read, 1 write, 4 abort (no effect, no reply).
+-- Top three bits of byte 0: 2 read, 1 write,
+abbrev pub accessTop : Access → ℕ
+accessTop Read = 2
+accessTop (Write length content) = 1
+
+-- 4 abort (no effect, no reply).
 abbrev pub top : List ℕ → ℕ
 top f = byte f 0 / 32
 

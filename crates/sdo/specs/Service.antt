@@ -1,7 +1,7 @@
 -- What is due to a request: 01's chapter "Service requests", the list "First that applies".
 use Prim.Native.Nat.{ℕ, _-_, _/_, _%_}
 use lib.Dec.{eqb, ltb}
-use mathlib.Core.Bool.{Bool, true, false, not, _&&_, cond}
+use mathlib.Core.Bool.{Bool, not, _&&_, cond}
 use mathlib.Core.List.{List, [], _∷_}
 use Rattle.cases.specs.Cases.{firstOf}
 use Rattle.entries.specs.declared.Device.{Device}
@@ -14,7 +14,8 @@ use Rattle.dictionary.specs.declared.read.Shown.the-variants.{Blank, Number}
 use Rattle.dictionary.specs.Reads.{shownAt}
 use Rattle.dictionary.specs.Accepted.{acceptsIn, isSignature, barred}
 use Rattle.dictionary.specs.AbortCodes.{invalidValue, wrongSignature, deviceState}
-use Rattle.sdo.specs.AbortCodes.{unknownCommand, noSuchIndex, noSuchSubIndex, readOnly, tooLong, tooShort, noData}
+use Rattle.sdo.specs.AbortCodes.{requestCode, foundCode, readOnly, tooLong, tooShort, shownCode}
+use Rattle.sdo.specs.declared.request.Request.the-variants.{UnknownCommand}
 use Rattle.sdo.specs.declared.reply.Served.{Served}
 use Rattle.sdo.specs.Request.{byte, indexOf, subOf, dataOf, aborting, reading, writing}
 use Rattle.sdo.specs.Reply.{noReply, answered, confirmed, aborted}
@@ -33,15 +34,8 @@ answer f (value width n) = answered f width n
 answer f (confirmation k v) = confirmed f k v
 answer f (abort code) = aborted f code
 
-abbrev pub noIndex : Found → Bool
-noIndex NoIndex = true
-noIndex NoSubIndex = false
-noIndex (At p) = false
-
-abbrev pub noSubIndex : Found → Bool
-noSubIndex NoIndex = false
-noSubIndex NoSubIndex = true
-noSubIndex (At p) = false
+abbrev pub isAbsent : Found → Bool
+isAbsent x = not (eqb (foundCode x) 0)
 
 abbrev pub rowOf : Found → Row
 rowOf NoIndex = noRow
@@ -54,8 +48,7 @@ shownOf d o NoSubIndex = Blank
 shownOf d o (At p) = shownAt d o p
 
 abbrev pub isBlank : Shown → Bool
-isBlank Blank = true
-isBlank (Number n) = false
+isBlank s = not (eqb (shownCode s) 0)
 
 abbrev pub numberIn : Shown → ℕ
 numberIn Blank = 0
@@ -75,10 +68,9 @@ steps d o f x =
     let r = rowOf x in
     let v = cutTo (width r) (dataOf f) in
     -- 1. other top bits, or a write with bit 1 clear
-    (not (reading f) && not (writing f), abort unknownCommand) ∷
+    (not (reading f) && not (writing f), abort (requestCode UnknownCommand)) ∷
     -- 2. no such index; no such sub-index
-    (noIndex x, abort noSuchIndex) ∷
-    (noSubIndex x, abort noSuchSubIndex) ∷
+    (isAbsent x, abort (foundCode x)) ∷
     -- 3. write to ro
     (writing f && not (isRw r), abort readOnly) ∷
     -- 4. length: longer, shorter
@@ -90,7 +82,7 @@ steps d o f x =
     -- 6. writes only: the state
     (writing f && barred d (key r) v, abort deviceState) ∷
     -- 7. read of a blank
-    (reading f && isBlank (shownOf d o x), abort noData) ∷
+    (reading f && isBlank (shownOf d o x), abort (shownCode Blank)) ∷
     (reading f, value (width r) (numberIn (shownOf d o x))) ∷
     []
 

@@ -10,7 +10,7 @@ use Rattle.entries.specs.declared.table.Found.the-variants.{At, NoSubIndex, NoI
 use Rattle.entries.specs.Table.{rowAt, width, isRw, key, lookup}
 use Rattle.dictionary.specs.Reads.{shownAt}
 use Rattle.dictionary.specs.Accepted.{abortCode}
-use Rattle.sdo.specs.AbortCodes.{unknownCommand, noSuchIndex, noSuchSubIndex, readOnly, tooLong, tooShort}
+use Rattle.sdo.specs.AbortCodes.{requestCode, foundCode, readOnly, tooLong, tooShort}
 use Rattle.sdo.specs.declared.request.Access.{Access}
 use Rattle.sdo.specs.declared.request.Access.the-variants.{Read, Write}
 use Rattle.sdo.specs.declared.request.Request.{Request}
@@ -37,10 +37,10 @@ entryReply d o f p Read = shownReply f (width (rowAt p)) (shownAt d o p)
 entryReply d o f p (Write n content) = rowReply d f n content (rowAt p)
 
 abbrev pub foundReply : Device → Bool → List ℕ → Access → Found → Served
-foundReply d o f a NoIndex = aborted f noSuchIndex
-foundReply d o f a NoSubIndex = aborted f noSuchSubIndex
+foundReply d o f a NoIndex = aborted f (foundCode NoIndex)
+foundReply d o f a NoSubIndex = aborted f (foundCode NoSubIndex)
 foundReply d o f a (At p) = entryReply d o f p a
 
 abbrev pub replyTo : Device → Bool → List ℕ → Request → Served
 replyTo d o f (Asked ask) = foundReply d o f (ask .access) (lookup (ask .index) (ask .sub))
-replyTo d o f UnknownCommand = aborted f unknownCommand
+replyTo d o f UnknownCommand = aborted f (requestCode UnknownCommand)

@@ -1,4 +1,15 @@
-//! The expedited SDO server: a request's eight bytes, the reply due, and what the write does. Types and laws, no functions.
+//! The expedited SDO server: a request's eight bytes, the reply due, and what the write does. Types and laws; the code is in crates above.
+ghost use mathlib.Core.Bool.{Bool};
+ghost use mathlib.Core.List.{List};
+ghost use Prim.Native.Nat.{ℕ};
+ghost use Rattle.entries.specs.declared.Device.{Device};
+ghost use Rattle.sdo.specs.Laws.{Laws};
+ghost use Rattle.sdo.specs.Worked.{Worked};
 
 pub mod reply;
 pub mod request;
+
+// It does nothing: what it ensures are the statements of the crate, so that the crate is proved only if they are.
+fn statements()
+    ensures { λ _. ⌜ ((d : Device) (o : Bool) (f : List ℕ) → Laws d o f) × Worked ⌝ }
+{}
