@@ -6,11 +6,11 @@ use Rattle.parts.specs.declared.Head.{Head}
 use Rattle.parts.specs.declared.Answer.{Answer}
 use Rattle.parts.specs.declared.Sent.{Sent}
 use Rattle.parts.specs.declared.Sensor.the-variants.{Missing as missing}
-use Rattle.promises.specs.Calls.{sampled, slotted}
+use Rattle.promises.specs.Calls.{sample, slot, step, slotAnswer, sentWith}
 use Rattle.text.specs.declared.Command.{Command}
 use Rattle.text.specs.declared.Command.the-variants.{Ticks, Missing, Slot}
 use Rattle.transcript.specs.declared.Reply.{Reply}
-use Rattle.transcript.specs.Commands.{silent, told, shown, ticks, obeyed}
+use Rattle.transcript.specs.Commands.{silent, told, shown, ticks, called, obeyed}
 use Rattle.transcript.specs.Bytes.{replyOf}
 
 module _ (h : Head) (bytes : List ℕ) (c : Command) {r : Reply} where
@@ -20,8 +20,8 @@ module _ (h : Head) (bytes : List ℕ) (c : Command) {r : Reply} where
   pub obeys-ticks : {n : ℕ} {t : Head} → c ≡ Ticks n → t ≡ ticks n h → r ≡ replyOf (silent t) → r ≡ replyOf (obeyed h bytes c)
   obeys-ticks e p q = q ∙ rw (e, p)
 
-  pub obeys-missing : {a : Answer} → c ≡ Missing → a ≡ sampled h missing → r ≡ replyOf (told a) → r ≡ replyOf (obeyed h bytes c)
+  pub obeys-missing : {a : Answer} → c ≡ Missing → a ≡ called h (sample missing) → r ≡ replyOf (told a) → r ≡ replyOf (obeyed h bytes c)
   obeys-missing e p q = q ∙ rw (e, p)
 
-  pub obeys-slot : {s : Sent} → c ≡ Slot → s ≡ slotted h → r ≡ replyOf (shown s) → r ≡ replyOf (obeyed h bytes c)
+  pub obeys-slot : {s : Sent} → c ≡ Slot → s ≡ sentWith (slotAnswer h) (step h slot) → r ≡ replyOf (shown s) → r ≡ replyOf (obeyed h bytes c)
   obeys-slot e p q = q ∙ rw (e, p)

@@ -5,9 +5,9 @@ use native.Mathlib.Omega.{arith}
 use borrow.Author.Tests.{lt-ltb}
 use Rattle.parts.specs.declared.Head.{Head}
 use Rattle.parts.specs.declared.Sensor.the-variants.{Raw}
-use Rattle.promises.specs.Calls.{sampled}
-use Rattle.transcript.specs.Commands.{told}
+use Rattle.promises.specs.Calls.{sample}
+use Rattle.transcript.specs.Commands.{told, called}
 use Rattle.transcript.specs.Bytes.{replyOf}
 
-pub sampled-above : (h : Head) (r : ℕ) → 0xFFFFFFFF < r → replyOf (told (sampled h (Raw 0xFFFFFFFF))) ≡ replyOf (told (sampled h (Raw r)))
+pub sampled-above : (h : Head) (r : ℕ) → 0xFFFFFFFF < r → replyOf (told (called h (sample (Raw 0xFFFFFFFF)))) ≡ replyOf (told (called h (sample (Raw r))))
 sampled-above h r b = rw (lt-ltb 1048575 r (omega arith))

@@ -1,9 +1,9 @@
 //! What each command does to the head, and what it prints.
 ghost use mathlib.Core.Path.{_≡_};
-ghost use Rattle.promises.specs.Calls.{received, sampled};
+ghost use Rattle.promises.specs.Calls.{receive as receives, sample as samples};
 ghost use Rattle.promises.specs.Valid.{Valid};
 ghost use Rattle.parts.specs.declared.Sensor.the-variants.{Raw as raw};
-ghost use Rattle.transcript.specs.Commands.{frameIn, ticks, told as tells, shown as shows, refused, silent, obeyed};
+ghost use Rattle.transcript.specs.Commands.{frameIn, ticks, told as tells, shown as shows, refused, silent, called, obeyed};
 ghost use Rattle.transcript.specs.Bytes.{replyOf};
 use can::Bytes;
 use can::Received;
@@ -39,7 +39,7 @@ pub fn obey(head: Head, said: Parsed) -> Reply
 
 fn receive(head: Head, identifier: u32, length: u8, bytes: Bytes) -> Reply
     requires { ⌜ Valid head ⌝ }
-    ensures { λ r. ⌜ r ≡ replyOf (tells (received head (frameIn identifier length bytes))) ⌝ }
+    ensures { λ r. ⌜ r ≡ replyOf (tells (called head (receives (frameIn identifier length bytes)))) ⌝ }
 {
     let frame = Received {
         identifier,
@@ -65,7 +65,7 @@ fn tick(head: Head, n: u16) -> Head
 // A number that 32 bits cannot hold is refused as the highest that they can hold is.
 fn sample(head: Head, number: u64) -> Reply
     requires { ⌜ Valid head ⌝ }
-    ensures { λ r. ⌜ r ≡ replyOf (tells (sampled head (raw number))) ⌝ }
+    ensures { λ r. ⌜ r ≡ replyOf (tells (called head (samples (raw number)))) ⌝ }
 {
     if HIGHEST < number {
         return told(head::sample(head, Sensor::Raw(HIGHEST as u32)));

@@ -21,7 +21,7 @@ use Rattle.entries.proofs.Communication as Communication
 use Rattle.entries.proofs.Communication.Laws as Communication′
 use Rattle.position.proofs.Profile as Profile
 use Rattle.position.proofs.Profile.Laws as Profile′
-use Rattle.lending.proofs.Rows.{Row, uint-row, bool-row}
+use Rattle.lending.proofs.Rows.{uint-row, bool-row}
 use Rattle.lending.proofs.Parts.{Field, Stored}
 use Rattle.lending.proofs.Fields.{first, next, tupled, plainly, listed, field-at, stored-at}
 use Rattle.lent.proofs.Rows.{head-row, core-row, nmt-row, timers-row, device-row, settings-row, reading-row, communication-row}

@@ -54,7 +54,7 @@ use Rattle.parts.proofs.Answer as Answer
 use Rattle.parts.proofs.Answer.Laws as Answer′
 use Rattle.parts.proofs.Head as Head
 use Rattle.parts.proofs.Head.Laws as Head′
-use Rattle.lending.proofs.Rows.{Row, uint-row, bool-row}
+use Rattle.lending.proofs.Rows.{uint-row, bool-row}
 use Rattle.lending.proofs.Parts.{Field}
 use Rattle.lending.proofs.Fields.{first, next, tupled, plainly, listed, field-at}
 use Rattle.lent.proofs.Rows.{head-row, answer-row, nmt-row, timers-row, settings-row, reading-row, communication-row, profile-row}

@@ -5,7 +5,7 @@ use mathlib.Core.Option.{Option, none, some}
 use Rattle.dictionary.specs.declared.read.Shown.{Shown}
 use Rattle.dictionary.specs.declared.read.Shown.the-variants.{Blank, Number}
 use Rattle.parts.specs.declared.Head.{Head}
-use Rattle.promises.specs.Calls.{slotted}
+use Rattle.promises.specs.Calls.{slotAnswer, isFrame}
 use Rattle.promises.specs.Readings.{readsIn}
 use Rattle.lent.specs.declared.Located.{Located}
 
@@ -28,4 +28,4 @@ positionOf h = numberIn (readsIn h 0x6004 0)
 
 -- whether a slot would send a frame
 abbrev pub anyWaits : Head → Bool
-anyWaits h = slotted h .waited
+anyWaits h = isFrame (slotAnswer h)

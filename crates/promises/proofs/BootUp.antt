@@ -11,13 +11,13 @@ use Rattle.parts.specs.declared.Head.{Head}
 use Rattle.parts.specs.declared.Sensor.the-variants.{Missing, Raw}
 use Rattle.position.specs.Profile.{highestRaw}
 use Rattle.promises.specs.States.{isInitialising, node}
-use Rattle.promises.specs.WaitingLine.{number, frame}
+use Rattle.promises.specs.WaitingLine.{number}
 use Rattle.promises.specs.Acts.{acted}
 use Rattle.promises.specs.Calls.{Call, receive, tick, sample, slot, isSlot, step}
 use Rattle.promises.specs.Valid.{Valid}
 use Rattle.promises.specs.Histories.{after, slots}
 use Rattle.promises.specs.Meant.{not-booted}
-use Rattle.promises.specs.FiveSlots.{BootUpWaits}
+use Rattle.promises.specs.FiveSlots.{oneByte, BootUpWaits}
 use Rattle.promises.proofs.Nothing.{step-nothing}
 use Rattle.promises.proofs.Valid.{valid-step}
 use Rattle.promises.proofs.Unmeant.{unmeant}
@@ -43,7 +43,7 @@ boots n [] h v i q z =
       initialising = i;
       only = λ k. ap (has (number k)) (none-waits h v i);
       waited = b .0;
-      answer = b .1 ∙ ap (λ m. frame (0x700 + m) 1 (0x00 ∷ [])) q;
+      answer = b .1 ∙ ap (λ m. oneByte (0x700 + m) 0x00) q;
     }
 boots n (c ∷ cs) h v i q z =
     test (isSlot c)

@@ -1,37 +1,36 @@
 -- `Codes` of specs/Codes.antt.
-use Prim.Native.Nat.{ℕ, _+_}
+use Prim.Native.Nat.{ℕ, _+_, _≤_}
 use native.Mathlib.Omega.{arith}
 use lib.Dec.{eqb, ltb}
 use mathlib.Core.Path.{_≡_, refl, sym, ap, ap₂, subst, _∙_}
 use mathlib.Core.Bool.{Bool, true, false, not, _&&_, _||_}
 use mathlib.Core.List.{List, [], _∷_}
 use mathlib.Core.Option.{some}
-use borrow.Author.Tests.{eqb-true, not-true}
+use mathlib.Core.Logic.{inl, inr, ⊎-elim}
+use borrow.Author.Tests.{eqb-true, le-ltb, not-true}
 use Rattle.cases.specs.Cases.{firstOf}
-use Rattle.cases.proofs.Cases.{by, by₂, both, neither, true-false}
+use Rattle.cases.proofs.Cases.{by, by₂, both, either, neither, true-false}
 use Rattle.can.specs.declared.Received.{Received}
 use Rattle.can.specs.declared.Frame.{Frame}
 use Rattle.position.specs.Profile.{highestRaw}
-use Rattle.entries.specs.Table.{entries, table, lookup}
 use Rattle.dictionary.specs.declared.read.Shown.the-variants.{Number}
-use Rattle.dictionary.specs.Reads.{shownAt}
-use Rattle.dictionary.proofs.Laws.{shows}
 use Rattle.waiting.specs.Line.{first}
 use Rattle.parts.specs.declared.Core.{Core}
 use Rattle.parts.specs.declared.Head.{Head}
 use Rattle.parts.specs.declared.Nmt.{Nmt}
 use Rattle.parts.specs.declared.Sensor.the-variants.{Missing, Raw}
 use Rattle.promises.specs.States.{CommandedState, operational, stopped, preOperational, code, isIn, isInitialising, node, Command}
-use Rattle.promises.specs.States.{toEnter, toReset, noCommand, command, byteOf, communication, PdoNumber, one, two, pdo}
-use Rattle.promises.specs.WaitingLine.{Kind, emergency, sdoReply, heartbeat, tpdo, frame, frameOf}
+use Rattle.promises.specs.States.{toEnter, toReset, noCommand, command, byteOf}
+use Rattle.promises.specs.WaitingLine.{Kind, emergency, sdoReply, heartbeat, tpdo, frameOf}
 use Rattle.promises.specs.Acts.{Act, nothing, enter, reset, boot, idle, send, take, lose, time, sync, serve, acted}
-use Rattle.promises.specs.Calls.{Call, receive, tick, sample, slot, commanded, meant, step, slotted}
-use Rattle.promises.specs.Valid.{Valid}
-use Rattle.promises.specs.Meant.{Commands, not-booted}
+use Rattle.promises.specs.Calls.{Call, receive, tick, sample, slot, commanded, meant, step, slotAnswer, isFrame, frameIn}
+use Rattle.promises.specs.Valid.{waits, Valid}
+use Rattle.promises.specs.Meant.{Commands, Requests, not-booted}
 use Rattle.promises.specs.Histories.{after, PowerUp, powered}
-use Rattle.promises.specs.Readings.{readsIn}
+use Rattle.promises.specs.Service.{replyFrame}
+use Rattle.promises.specs.FiveSlots.{oneByte}
 use Rattle.promises.specs.Gap.{nodeOf}
-use Rattle.promises.specs.Codes.{says, codeBy, codeFrom, codeAfter, IsSaid, parameters, IsFirst, Codes}
+use Rattle.promises.specs.Codes.{says, codeBy, codeFrom, codeAfter, InState, IsSaid, Asks, IsFirst, Codes}
 use Rattle.promises.proofs.KindNumbers.{sent-as}
 use Rattle.promises.proofs.Valid.{valid-step}
 use Rattle.promises.proofs.Unmeant.{not-meant}
@@ -42,6 +41,7 @@ use Rattle.promises.proofs.NetworkStates.{network-states}
 use Rattle.promises.proofs.Histories.{valid-after, valid-powered}
 use Rattle.promises.proofs.SameNode.{node-step, node-after, node-powered}
 use Rattle.promises.proofs.Spoken.{commands-so}
+use Rattle.promises.proofs.Parameters.{parameters-read}
 
 abbrev codeOf : Core → ℕ
 codeOf c = c .nmt .code
@@ -105,7 +105,7 @@ module _ (n : ℕ) (h : Head) (q : node (h .core) ≡ n) (v : Valid h) where
         says = rw (y .1, rw (← q) at (x .1));
       }
 
-  says-byte : (f : Received) (b : ℕ) → isInitialising c ≡ false → says n b (receive f) ≡ true → Commands h f (command b)
+  pub says-byte : (f : Received) (b : ℕ) → isInitialising c ≡ false → says n b (receive f) ≡ true → Commands h f (command b)
   says-byte f b i e =
       let w = both (addressed f) (eqb (byteOf f 0) b) e in
       subst (λ x. Commands h f (command x)) (eqb-true (byteOf f 0) b (w .1)) (commands-heard f i (w .0))
@@ -164,33 +164,73 @@ code-after n [] h x q v e = e
 code-after n (y ∷ cs) h x q v e =
     code-after n cs (step h y) (codeBy n x y) (node-step h v y ∙ q) (valid-step h y v) (code-step n h q v y ∙ ap (λ z. codeBy n z y) e)
 
-code-is : (p : PowerUp) (cs : List Call) → codeOf (after (powered p) cs .core) ≡ codeAfter (nodeOf p) cs
+pub code-is : (p : PowerUp) (cs : List Call) → codeOf (after (powered p) cs .core) ≡ codeAfter (nodeOf p) cs
 code-is p cs =
     code-after (nodeOf p) cs (powered p) 0x00 (node-powered p) (valid-powered p) (ap (λ (s : Nmt). s .code) (network-states .starts p))
 
 module _ (h : Head) (v : Valid h) where
-  sends : (k : Kind) → IsFirst k h → (slotted h .waited ≡ true) × (slotted h .frame ≡ frameOf (h .core) k)
+  sends : (k : Kind) → IsFirst k h → (isFrame (slotAnswer h) ≡ true) × (frameIn (slotAnswer h) ≡ frameOf (h .core) k)
   sends k e = answers h (sends-first h v (awake h v k e) k e)
 
--- 1800-1 and 1801-1
-identifier-read : (h : Head) (w : PdoNumber) → readsIn h (parameters w) 1 ≡ some (Number (pdo (communication (h .core)) w .identifier))
-unfolding entries table lookup shownAt
-identifier-read h one = shows (h .core .device) (isIn operational (h .core)) 0x1800 1 refl refl
-identifier-read h two = shows (h .core .device) (isIn operational (h .core)) 0x1801 1 refl refl
+-- A request is one in plain numbers, of every head whose node is n and whose code is x.
+module _ (n x : ℕ) (h : Head) (f : Received) (q : node (h .core) ≡ n) (e : codeOf (h .core) ≡ x) where
+  asked : Requests h f → Asks n x f × (waits h sdoReply ≡ false)
+  asked r =
+      let plain = neither (f .extended || f .remote) (isInitialising (h .core)) (r .hears .heard) .0 in
+      let u = neither (f .extended) (f .remote) plain in (
+        record {
+          of-11-bits = u .0;
+          is-data = u .1;
+          identifier = r .identifier ∙ ap (λ k. 0x600 + k) q;
+          length = r .length;
+          state =
+              either (eqb (codeOf (h .core)) 0x7F) (eqb (codeOf (h .core)) 0x05) (r .live)
+              (λ t. inl (sym e ∙ eqb-true _ _ t))
+              (λ t. inr (sym e ∙ eqb-true _ _ t));
+        },
+        r .free,
+      )
+
+  asks : n ≤ 127 → Asks n x f → waits h sdoReply ≡ false → Requests h f
+  asks low a free =
+      record {
+        hears =
+            record {
+              unrefused =
+                  rw (a .of-11-bits, a .length, le-ltb 0x7FF (f .identifier) (omega (arith, a .identifier, low)));
+              heard = rw (a .of-11-bits, a .is-data, e) (⊎-elim (λ t. rw t) (λ t. rw t) (a .state));
+            };
+        identifier = a .identifier ∙ ap (λ k. 0x600 + k) (sym q);
+        length = a .length;
+        live = rw e (⊎-elim (λ t. rw t) (λ t. rw t) (a .state));
+        free = free;
+      }
 
 pub codes : Codes
 codes =
     record {
       codes = code-is;
+      in-state = λ p cs. subst (InState (after (powered p) cs .core)) (code-is p cs)
+          (record { is-initialising = refl; is-stopped = refl; is-operational = refl; is-pre-operational = refl; is-live = refl });
       said = (said 0x01, (said 0x02, (said 0x80, (said 0x81, (said 0x82, tt)))));
+      requests = λ p cs f.
+          let h : Head = after (powered p) cs in
+          let low = rw (its-node p cs) at (valid p cs .device .node-high) in (
+            asked (nodeOf p) (codeAfter (nodeOf p) cs) h f (its-node p cs) (code-is p cs),
+            λ a. asks (nodeOf p) (codeAfter (nodeOf p) cs) h f (its-node p cs) (code-is p cs) low (a .0) (a .1),
+          );
       beats = λ p cs e.
           let h : Head = after (powered p) cs in
           let s = sends h (valid p cs) heartbeat e in
-          (s .0, s .1 ∙ ap₂ (λ n x. frame (0x700 + n) 1 (x ∷ [])) (its-node p cs) (code-is p cs));
+          (s .0, s .1 ∙ ap₂ (λ n x. oneByte (0x700 + n) x) (its-node p cs) (code-is p cs));
+      replies = λ p cs e.
+          let h : Head = after (powered p) cs in
+          let s = sends h (valid p cs) sdoReply e in
+          (s .0, s .1 ∙ ap (λ n. replyFrame n (h .core .reply)) (its-node p cs));
       shows = λ p cs w e.
           let h : Head = after (powered p) cs in
           let s = sends h (valid p cs) (tpdo w) e in
-          let read = identifier-read h w ∙ ap (λ (f : Frame). some (Number (f .identifier))) (sym (s .1)) in
+          let read = parameters-read h .identifier w ∙ ap (λ (f : Frame). some (Number (f .identifier))) (sym (s .1)) in
           (s .0, ap (λ (f : Frame). f .length) (s .1), read);
     }
   where

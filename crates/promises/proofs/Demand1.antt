@@ -11,6 +11,7 @@ use Rattle.cases.proofs.Cases.{by, both, true-false}
 use Rattle.can.specs.declared.Received.{Received}
 use Rattle.can.specs.Frame.{badIdentifier, badLength}
 use Rattle.cases.specs.Tests.{within}
+use Rattle.dictionary.specs.Valid.{ValidIdentity}
 use Rattle.sdo.specs.Reply.{replies}
 use Rattle.sdo.specs.Request.{aborting}
 use Rattle.sdo.specs.Service.{answer}
@@ -21,7 +22,7 @@ use Rattle.parts.specs.declared.Head.{Head}
 use Rattle.position.specs.Profile.{highestRaw}
 use Rattle.promises.specs.States.{operational, isIn, isLive, node, Command, noCommand, toEnter, toReset, commandOf}
 use Rattle.promises.specs.Acts.{Act, nothing}
-use Rattle.promises.specs.Calls.{receive, step, commanded, meant, received}
+use Rattle.promises.specs.Calls.{receive, step, commanded, meant}
 use Rattle.promises.specs.Valid.{Valid}
 use Rattle.promises.specs.Meant.{Heard, Requests, MeantFor, to-enter, to-reset, to-synchronise, to-serve, dueTo}
 use Rattle.promises.specs.Histories.{powered}
@@ -100,13 +101,18 @@ module _ (h : Head) (f : Received) (v : Valid h) where
       (λ t. by Due (replies (answer (f .bytes) (dueTo h f) .effect)) (λ u. inl (as-request (by-request h f v x i t) u)) (λ _. inr refl))
       (λ _. inr refl))
 
-  meant-or-nothing : MeantFor h f ⊎ (received h f .head ≡ h)
+  meant-or-nothing : MeantFor h f ⊎ (step h (receive f) ≡ h)
   meant-or-nothing = ⊎-elim (λ m. inl m) (λ n. inr (step-nothing h (receive f) refl n)) means
 
 pub demand1 : Demand1
 demand1 =
     record {
       starts = λ p. record { start = p; calls = []; so = refl };
+      takes-any = λ n i a b c d.
+          let fits : ValidIdentity i =
+          record { vendor = omega (arith, a); product = omega (arith, b); revision = omega (arith, c); serial = omega (arith, d) }
+          in
+          (record { number = n; identity = i; fits = fits }, refl, refl);
       goes-on = λ h c r.
           record {
             start = r .start;
@@ -114,6 +120,7 @@ demand1 =
             so = ap (λ g. step g c) (r .so) ∙ sym (after-append (powered (r .start)) (r .calls) (c ∷ []));
           };
       valid = valid-reachable;
+      valid-device = λ h r. valid-reachable h r .device;
       gives-1 = λ h f. ↔-then (first-passes 1 2 0 refl refl refl (badIdentifier f) (badLength f)) (bad-identifier f);
       gives-2 =
           λ h f. ↔-then (second-passes 1 2 0 refl refl refl (badIdentifier f) (badLength f))

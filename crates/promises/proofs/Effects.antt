@@ -27,7 +27,7 @@ use Rattle.waiting.specs.Line.{has}
 use Rattle.parts.specs.declared.Head.{Head}
 use Rattle.promises.specs.States.{operational, isIn}
 use Rattle.promises.specs.Acts.{serve, settledTo, act}
-use Rattle.promises.specs.Calls.{receive, meant, received}
+use Rattle.promises.specs.Calls.{receive, meant, step}
 use Rattle.promises.specs.Valid.{Valid}
 use Rattle.promises.specs.Meant.{Requests, dueTo}
 use Rattle.promises.specs.Effects.{OnlyReplied, Effects, Served, ServedRightly}
@@ -64,7 +64,7 @@ module _ (h : Head) (f : Received) (valid : Valid h) (r : Requests h f) where
   -- by a reply of these bytes, which has no other effect
   replied : (bytes : List ℕ) → answer (f .bytes) (dueTo h f) .bytes ≡ bytes
       → meant h (receive f) ≡ serve (record { bytes = bytes; effect = Reply })
-      → OnlyReplied f h (received h f .head)
+      → OnlyReplied f h (step h (receive f))
   unfolding act settledTo
   replied bytes e m =
       let after : OnlyReplied f h (act false h (serve (record { bytes = bytes; effect = Reply }))) =
@@ -94,7 +94,7 @@ module _ (h : Head) (f : Received) (valid : Valid h) (r : Requests h f) where
         ∙ subst (λ n. readOf (written d n v) o (At (its .place)) ≡ some (Number (readBack n v))) (sym (its .key))
         (ap some (effect-laws .own-after d o (its .place) v (valid .device) (its .takes)))
 
-    accepted : Effects f k v h (received h f .head)
+    accepted : Effects f k v h (step h (receive f))
     unfolding act settledTo written
     accepted =
         let after : Effects f k v h (act false h (serve (confirmed (f .bytes) k v))) =

@@ -2,7 +2,7 @@
 use Prim.Native.Nat.{ℕ, zero, suc, _<_, _≤_}
 use native.Mathlib.Omega.{arith}
 use lib.Dec.{eqb}
-use mathlib.Core.Path.{_≡_, refl, sym, subst}
+use mathlib.Core.Path.{_≡_, refl, sym, ap, subst, _∙_}
 use mathlib.Core.Logic.{_⊎_, inl, inr}
 use mathlib.Core.Bool.{Bool, true, and-true}
 use mathlib.Core.List.{List, [], _∷_, map}
@@ -28,6 +28,9 @@ kind-at sdoReply = refl
 kind-at heartbeat = refl
 kind-at (tpdo one) = refl
 kind-at (tpdo two) = refl
+
+pub same-kind : (j k : Kind) → number j ≡ number k → j ≡ k
+same-kind j k e = sym (kind-at j) ∙ ap kindAt e ∙ kind-at k
 
 pub number-is : (x : ℕ) → 0 < x → x ≤ places → number (kindAt x) ≡ x
 number-is zero p q = absurd (omega arith)

@@ -53,8 +53,16 @@ pub mod Tested
 pub mod Beats
 pub mod Clocked
 pub mod Moments
+pub mod PassedOver
 pub mod Worked
+pub mod Parameters
 pub mod Codes
+pub mod Emergency
 pub mod Starts
+pub mod Signatures
+pub mod Staying
+pub mod ByEntries
+pub mod Words
+pub mod Counting
 pub mod Demand2
 pub mod Demand3

@@ -18,7 +18,7 @@ use Rattle.promises.specs.States.{CommandedState, operational, code, sta
 use Rattle.promises.specs.States.{good, Reset, Command, noCommand, toEnter, toReset, commandOf}
 use Rattle.promises.specs.WaitingLine.{Kind, emergency, sdoReply, heartbeat, tpdo, number, mayStay, mayJoin}
 use Rattle.promises.specs.Acts.{Act, send, acted, momentsOf, timersAfter, settledTo, act}
-use Rattle.promises.specs.Calls.{Call, receive, tick, sample, slot, commanded, meant, step, received, slotted}
+use Rattle.promises.specs.Calls.{Call, receive, tick, sample, slot, commanded, meant, step}
 use Rattle.promises.specs.Valid.{waits, Valid}
 use Rattle.promises.specs.Meant.{Commands}
 use Rattle.promises.specs.Resets.{Restarted}
@@ -36,13 +36,13 @@ module _ (h : Head) (f : Received) where
   pub commands : {k : Command} → Commands h f k → meant h (receive f) ≡ commanded (h .core) k
   commands m = rw (eq-eqb _ _ (m .hears .unrefused), m .hears .heard, eq-eqb _ _ (m .identifier), m .says)
 
-  pub enters : (g : CommandedState) → Commands h f (toEnter g) → received h f .head .core .nmt ≡ state g
+  pub enters : (g : CommandedState) → Commands h f (toEnter g) → step h (receive f) .core .nmt ≡ state g
   enters g m =
       ap (λ c. c .nmt) (core-step h (receive f) ∙ ap (acted (h .core)) (commands m))
       ∙ by (λ a. acted (h .core) a .nmt ≡ state g) (isIn g (h .core))
       (λ e. ap (λ n. record { code = n }) (eqb-true (h .core .nmt .code) (code g) e)) (λ _. refl)
 
-  pub resets : (r : Reset) → Commands h f (toReset r) → Restarted r (h .core) (received h f .head .core)
+  pub resets : (r : Reset) → Commands h f (toReset r) → Restarted r (h .core) (step h (receive f) .core)
   resets r m =
       rw (core-step h (receive f), commands m)
       (record { initialising = refl; timers = refl; announced = refl; settings = refl; saved = refl; reading = refl; errors = refl })
@@ -103,7 +103,7 @@ module _ (h : Head) (v : Valid h) (i : isInitialising (h .core) ≡ false) where
   sent-rests heartbeat = refl
   sent-rests (tpdo w) = refl
 
-  pub leaves : (k : Kind) → first (waiting (h .line)) ≡ number k → waits (slotted h .head) k ≡ false
+  pub leaves : (k : Kind) → first (waiting (h .line)) ≡ number k → waits (step h slot) k ≡ false
   leaves k e =
       let c = h .core in
       rw (sends-first h v i k e, waits-act true h (send k) v k, eq-eqb _ _ e, sent-rests k)

@@ -21,7 +21,7 @@ use Rattle.promises.specs.States.{operational, stopped, preOperational, 
 use Rattle.promises.specs.States.{node, Command, noCommand, toEnter, toReset, commandOf}
 use Rattle.promises.specs.WaitingLine.{sdoReply, number}
 use Rattle.promises.specs.Acts.{Act, boot, idle, send, acted, frameBy}
-use Rattle.promises.specs.Calls.{Call, receive, tick, sample, slot, isSlot, meant, step, isFrame, frameIn, slotted}
+use Rattle.promises.specs.Calls.{Call, receive, tick, sample, slot, isSlot, meant, step, isFrame, frameIn, slotAnswer}
 use Rattle.promises.specs.Valid.{waits, Valid}
 use Rattle.promises.specs.Meant.{Commands}
 use Rattle.promises.specs.Histories.{after}
@@ -116,7 +116,7 @@ module _ (h : Head) (v : Valid h) where
       (λ e.
       let x = sends-it h v slot sdoReply refl (eqb-true _ _ e) in
       let t : sendsReply h ≡ true =
-      ap (λ (t : Bool). t && eqb (slotted h .frame .identifier) (0x580 + node (h .core))) (x .waited)
+      ap (λ (t : Bool). t && eqb (frameIn (slotAnswer h) .identifier) (0x580 + node (h .core))) (x .waited)
       ∙ eq-eqb _ _ (ap (λ (f : Frame). f .identifier) (x .answer)) in
       true-false (sym t ∙ n))
       (λ e. e)

@@ -28,7 +28,7 @@ use Rattle.parts.specs.declared.Sensor.the-variants.{Missing, Raw}
 use Rattle.promises.specs.States.{operational, isIn, node, ofNode, ofCommunication}
 use Rattle.promises.specs.WaitingLine.{Kind, emergency, sdoReply, heartbeat, tpdo, frameOf}
 use Rattle.promises.specs.Acts.{Act, boot, idle, send, frameBy}
-use Rattle.promises.specs.Calls.{Call, receive, slot, meant, step, isFrame, frameIn, received, slotted}
+use Rattle.promises.specs.Calls.{Call, receive, slot, meant, step, isFrame, frameIn, slotAnswer}
 use Rattle.promises.specs.Valid.{waits, Valid}
 use Rattle.promises.specs.Meant.{dueTo, Writes}
 use Rattle.promises.specs.Histories.{after, Reachable}
@@ -119,7 +119,7 @@ module _ (h : Head) (v : Valid h) where
         whole = numbers .back 4 (position p (d .reading .raw)) below;
       }
 
-  carries : slotted h .waited ≡ true → within 0x181 0x57F (slotted h .frame .identifier) ≡ true → Carries h (slotted h .frame)
+  carries : isFrame (slotAnswer h) ≡ true → within 0x181 0x57F (frameIn (slotAnswer h) .identifier) ≡ true → Carries h (frameIn (slotAnswer h))
   carries = by-act (meant h slot) (at-slot h v)
     where
       by-act : (a : Act) → AtSlot h a → let x = frameBy (h .core) a in isFrame x ≡ true → isPosition (frameIn x) ≡ true
@@ -131,7 +131,7 @@ module _ (h : Head) (v : Valid h) where
 
 -- an accepted preset
 presets : (h : Head) → Reachable h → (f : Received) (x : ℕ) → Writes h f presetKey x
-    → readsIn (received h f .head) 0x6004 0 ≡ some (Number x)
+    → readsIn (step h (receive f)) 0x6004 0 ≡ some (Number x)
 presets h r f x w =
     let d = h .core .device in
     let o = isIn operational (h .core) in

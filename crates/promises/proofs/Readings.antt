@@ -2,13 +2,13 @@
 use Prim.Native.Nat.{ℕ}
 use native.Mathlib.Omega.{arith}
 use lib.Dec.{ltb}
-use mathlib.Core.Path.{_≡_, refl, sym, ap, ap₂, _∙_}
+use mathlib.Core.Path.{_≡_, refl, sym, ap, ap₂, subst, _∙_}
 use mathlib.Core.Logic.{_↔_}
 use mathlib.Core.Bool.{Bool, true, false, not, cond}
 use mathlib.Core.List.{List, [], _∷_}
 use mathlib.Core.Option.{some}
 use borrow.Author.Tests.{eqb-true, leb-false, ltb-false}
-use Rattle.cases.proofs.Cases.{by}
+use Rattle.cases.proofs.Cases.{by, true-false}
 use Rattle.position.specs.declared.Profile.{Profile}
 use Rattle.position.specs.Position.{position}
 use Rattle.position.specs.Profile.{highestRaw}
@@ -65,7 +65,7 @@ module _ (d : Device) (o : Bool) where
   unfolding table entries lookup shownAt
   registers-shown = (shows d o 0x1001 0 refl refl, shows d o 0x6503 0 refl refl)
 
-  read-due : (f : List ℕ) (p : ℕ) → reading f ≡ true → lookup (indexOf f) (subOf f) ≡ At p
+  pub read-due : (f : List ℕ) (p : ℕ) → reading f ≡ true → lookup (indexOf f) (subOf f) ≡ At p
       → due d o f ≡ dueShown (width (rowAt p)) (shownAt d o p)
   unfolding due
   read-due f p r q = rw (q, eqb-true (top f) 2 r) (shown-due (width (rowAt p)) (shownAt d o p))
@@ -82,6 +82,10 @@ by-sample p (Raw r) = refl
 register-by : (s : Sensor) → Number (cond (not (readingOf s .good)) 1 0) ≡ shownRegister s
 register-by Missing = refl
 register-by (Raw r) = refl
+
+good-by : (s : Sensor) → (readingOf s .good ≡ true) ↔ ((r : ℕ) × (s ≡ Raw r))
+good-by Missing = (λ e. true-false (sym e), λ x. ap (λ t. readingOf t .good) (x .1))
+good-by (Raw r) = (λ e. (r, refl), λ x. refl)
 
 blank-by : (p : Profile) (s : Sensor) → (some (shownPosition p s) ≡ some Blank) ↔ (s ≡ Missing)
 blank-by p Missing = (λ _. refl, λ _. refl)
@@ -139,6 +143,7 @@ tells-of h s e =
     let blank = blank-by (profileOf h) s in
     record {
       reading-is = e;
+      is-good = subst (λ (r : Reading). (r .good ≡ true) ↔ ((n : ℕ) × (s ≡ Raw n))) (sym e) (good-by s);
       position = reads-it;
       blank = (λ b. blank .0 (sym reads-it ∙ b), λ m. reads-it ∙ blank .1 m);
       register = registers-shown d o .0 ∙ ap some register;

@@ -21,7 +21,7 @@ use Rattle.sdo.specs.Request.{indexOf, subOf}
 use Rattle.parts.specs.declared.Head.{Head}
 use Rattle.promises.specs.States.{operational, isIn}
 use Rattle.promises.specs.Acts.{resetTo}
-use Rattle.promises.specs.Calls.{Call, receive, received}
+use Rattle.promises.specs.Calls.{Call, receive, step}
 use Rattle.promises.specs.Meant.{Writes}
 use Rattle.promises.specs.Histories.{after, Reachable}
 use Rattle.promises.specs.Readings.{readsIn}
@@ -52,11 +52,11 @@ module _ (d e : Device) (o u : Bool) where
       ∙ ap (λ s. shown x (resetTo e s) u) q
 
 pub reads-on : (h : Head) → Reachable h → (f : Received) (k v : ℕ) → Writes h f k v → (k ≡ errorCountKey → ⊥) → (cs : List Call)
-    → None Alters (received h f .head) cs
-    → readsIn (after (received h f .head) cs) (indexOf (f .bytes)) (subOf (f .bytes)) ≡ some (Number (readBack k v))
+    → None Alters (step h (receive f)) cs
+    → readsIn (after (step h (receive f)) cs) (indexOf (f .bytes)) (subOf (f .bytes)) ≡ some (Number (readBack k v))
 reads-on h x f k v w n cs a =
     let valid = valid-reachable h x in
-    let now = received h f .head in
+    let now = step h (receive f) in
     let later = after now cs in
     let t = told h f (w .accepted) in
     let own = served-rightly h x f (w .requests) .accepted k v (w .accepted) .own in

@@ -16,7 +16,7 @@ use Rattle.parts.specs.declared.Sensor.{Sensor}
 use Rattle.parts.specs.declared.Sensor.the-variants.{Missing, Raw}
 use Rattle.promises.specs.States.{started}
 use Rattle.promises.specs.Acts.{nothing}
-use Rattle.promises.specs.Calls.{receive, sample, badSample, sampledAs, step, noIdentity, poweredUp, sampled}
+use Rattle.promises.specs.Calls.{receive, sample, badSample, sampledAs, step, noIdentity, poweredUp, refusalBy}
 use Rattle.promises.proofs.Nothing.{step-nothing}
 
 -- one test: a where it passes, else b
@@ -53,7 +53,7 @@ no-sample : (s : Sensor) → badSample s ≡ true → sampledAs s ≡ nothing
 no-sample Missing e = true-false (sym e)
 no-sample (Raw r) e = rw e
 
-pub sample-refused : (h : Head) (s : Sensor) → (sampled h s .refusal ≡ 0 → ⊥) → step h (sample s) ≡ h
+pub sample-refused : (h : Head) (s : Sensor) → (refusalBy (sample s) ≡ 0 → ⊥) → step h (sample s) ≡ h
 sample-refused h s n = test (badSample s) (λ e. step-nothing h (sample s) refl (no-sample s e)) (λ e. absurd (n (rw e)))
 
 pub node-refused : (n : ℕ) (i : Identity) → (poweredUp n i .refusal ≡ 0 → ⊥) → poweredUp n i .head ≡ started 1 noIdentity

@@ -13,7 +13,7 @@ use Rattle.sdo.specs.Request.{aborting}
 use Rattle.parts.specs.declared.Head.{Head}
 use Rattle.promises.specs.States.{node}
 use Rattle.promises.specs.WaitingLine.{sdoReply}
-use Rattle.promises.specs.Calls.{Call, receive, tick, sample, slot, step, slotted}
+use Rattle.promises.specs.Calls.{Call, receive, tick, sample, slot, step, slotAnswer, isFrame, frameIn}
 use Rattle.promises.specs.Valid.{waits, Valid}
 use Rattle.promises.specs.Histories.{after, frames, sent, PowerUp, powered}
 use Rattle.promises.specs.Service.{isRequest, isAnswered, replyFrame, sendsReply, withdrawsReply, owedBy}
@@ -45,10 +45,10 @@ module _ (h : Head) (v : Valid h) (n : ℕ) (q : node (h .core) ≡ n) where
   reply-by tick = omega arith
   reply-by (sample s) = omega arith
   reply-by slot =
-      let waited = slotted h .waited in
-      let i = slotted h .frame .identifier in
+      let waited = isFrame (slotAnswer h) in
+      let i = frameIn (slotAnswer h) .identifier in
       let one : repliesIn n (frames h slot) ≡ cond (sendsReply h) 1 0 =
-      one-reply n waited (slotted h .frame) ∙ ap (λ (m : ℕ). cond (waited && eqb i (0x580 + m)) 1 0) (sym q) in
+      one-reply n waited (frameIn (slotAnswer h)) ∙ ap (λ (m : ℕ). cond (waited && eqb i (0x580 + m)) 1 0) (sym q) in
       let most : cond (sendsReply h) 1 0 + still (cond (sendsReply h) none (pending h)) ≤ still (pending h) =
       by₂ (λ (m : ℕ) (o : Option (List ℕ)). m + still o ≤ still (pending h)) (sendsReply h)
       (λ s. omega (arith, ap (λ (t : Bool). still (cond t (some (h .core .reply)) none)) (replies-first h v s .1)))
@@ -88,7 +88,7 @@ module _ (p : PowerUp) (cs : List Call) where
   answers = record { exactly = exactly; alone = alone; sends = sends-owed; at-most-one = at-most-one }
     where
       sends-owed : let h = after (powered p) cs in sendsReply h ≡ true
-          → (b : List ℕ) × (owed (powered p) none cs ≡ some b) × (slotted h .frame ≡ replyFrame (node (powered p .core)) b)
+          → (b : List ℕ) × (owed (powered p) none cs ≡ some b) × (frameIn (slotAnswer h) ≡ replyFrame (node (powered p .core)) b)
       sends-owed s =
           let h = after (powered p) cs in
           let v = valid-after (powered p) cs (valid-powered p) in

@@ -4,6 +4,7 @@ use lib.ListN.{drop}
 use mathlib.Core.Path.{_≡_, refl, sym, ap, subst, _∙_}
 use mathlib.Core.Bool.{Bool, true, false, not, _&&_, cond, Bool·beq}
 use mathlib.Core.List.{[], _∷_, map}
+use mathlib.Core.Logic.{inl, inr}
 use mathlib.Core.Option.{some}
 use Rattle.can.specs.declared.Received.{Received}
 use Rattle.entries.specs.declared.Device.{Device}
@@ -26,11 +27,12 @@ use Rattle.promises.specs.States.{operational, isIn, isInitialising, nod
 use Rattle.promises.specs.States.{Reset, ofNode, ofCommunication, restored, toReset}
 use Rattle.promises.specs.WaitingLine.{isAlerting}
 use Rattle.promises.specs.Acts.{boot, resetTo, booted, acted, emergencyOnly, goes, comes, settledTo, act}
-use Rattle.promises.specs.Calls.{receive, received, slotted}
+use Rattle.promises.specs.Calls.{receive, slot, step}
 use Rattle.promises.specs.Valid.{Valid}
 use Rattle.promises.specs.Meant.{Commands}
-use Rattle.promises.specs.Histories.{after}
-use Rattle.promises.specs.Resets.{settingsFor, HasReset, HasBooted, Restores, Resets}
+use Rattle.promises.specs.Histories.{after, Reachable}
+use Rattle.promises.specs.Readings.{readsIn}
+use Rattle.promises.specs.Resets.{settingsFor, HasReset, HasBooted, Saves, Restores, Resets}
 use Rattle.promises.proofs.Valid.{valid-step}
 use Rattle.promises.proofs.Waits.{holds-act}
 use Rattle.promises.proofs.Slots.{none-waits, boots}
@@ -69,10 +71,10 @@ reads-reset : (r : Reset) (d : Device) (i j : ℕ)
 reads-reset ofNode d i j = refl
 reads-reset ofCommunication d i j = found-reset d i j (lookup i j) refl
 
-has-reset : (h : Head) (f : Received) (r : Reset) → Valid h → Commands h f (toReset r) → HasReset r h (received h f .head)
+pub has-reset : (h : Head) (f : Received) (r : Reset) → Valid h → Commands h f (toReset r) → HasReset r h (step h (receive f))
 has-reset h f r v m =
     let restarted = resets h f r m in
-    let empty = none-waits (received h f .head) (valid-step h (receive f) v) (restarted .initialising) in
+    let empty = none-waits (step h (receive f)) (valid-step h (receive f) v) (restarted .initialising) in
     let means = core-step h (receive f) ∙ ap (acted (h .core)) (commands h f m) in
     record {
       entries = λ i j. ap (λ c. reads (c .device) (isIn operational c) i j) means ∙ reads-reset r (h .core .device) i j;
@@ -93,7 +95,7 @@ untold true true = refl
 untold true false = refl
 untold false g = refl
 
-has-booted : (h : Head) → Valid h → isInitialising (h .core) ≡ true → HasBooted h (slotted h .head)
+has-booted : (h : Head) → Valid h → isInitialising (h .core) ≡ true → HasBooted h (step h slot)
 unfolding act settledTo
 has-booted h v i =
     let c = h .core in
@@ -119,11 +121,15 @@ has-booted h v i =
 
 restores : (k : ℕ) (s : Head → Settings) → ((h : Head) → savedBy (h .core .device) k ≡ s h) → Restores k s
 restores k s e h x f v w cs n g r m =
-    let now = received h f .head in
+    let now = step h (receive f) in
     let valid = valid-step h (receive f) (valid-reachable h x) in
     resets (after now cs) g r m .settings
     ∙ ap (restored r (after now cs .core .device .settings))
     (saved-after now valid cs n ∙ served-rightly h x f (w .requests) .accepted k v (w .accepted) .saved ∙ e h)
+
+runs-on : (h : Head) → Reachable h → (f : Received) → Saves h (receive f) → (i j : ℕ) → readsIn (step h (receive f)) i j ≡ readsIn h i j
+runs-on h x f (v, inl w) i j = served-rightly h x f (w .requests) .accepted saveKey v (w .accepted) .others i j refl
+runs-on h x f (v, inr w) i j = served-rightly h x f (w .requests) .accepted loadKey v (w .accepted) .others i j refl
 
 pub save-and-reset : Resets
 save-and-reset =
@@ -135,5 +141,5 @@ save-and-reset =
       saved-stays = λ h x. saved-after h (valid-reachable h x);
       saves = restores saveKey _ (λ h. refl);
       loads = restores loadKey _ (λ h. refl);
-      runs-on = λ h x f v w i j. served-rightly h x f (w .requests) .accepted loadKey v (w .accepted) .others i j refl;
+      runs-on = runs-on;
     }

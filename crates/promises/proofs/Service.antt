@@ -17,7 +17,7 @@ use Rattle.parts.specs.declared.Head.{Head}
 use Rattle.promises.specs.States.{operational, isIn, isInitialising, isLive, node}
 use Rattle.promises.specs.WaitingLine.{sdoReply}
 use Rattle.promises.specs.Acts.{Act, nothing, enter, reset, boot, idle, send, take, lose, time, sync, serve, acted, momentsOf, act}
-use Rattle.promises.specs.Calls.{receive, meant, step, received}
+use Rattle.promises.specs.Calls.{receive, meant, step}
 use Rattle.promises.specs.Valid.{waits, Valid}
 use Rattle.promises.specs.Meant.{Heard, Requests, reply-waits, client-abort}
 use Rattle.promises.specs.Histories.{Reachable}
@@ -73,7 +73,7 @@ module _ (h : Head) (f : Received) where
     serves-it : Requests h f → aborting (f .bytes) ≡ false → meant h (receive f) ≡ serve (replyDue h f)
     serves-it r a = requests h f v r ∙ rw (sdo-laws (h .core .device) (isIn operational (h .core)) (f .bytes) .replied, a)
 
-    pub gets-what-is-due : Requests h f → aborting (f .bytes) ≡ false → Replied h f (received h f .head)
+    pub gets-what-is-due : Requests h f → aborting (f .bytes) ≡ false → Replied h f (step h (receive f))
     gets-what-is-due r a =
         let s = replyDue h f in
         let j = at-the-end h v (r .live) (r .free) s in
@@ -85,7 +85,7 @@ module _ (h : Head) (f : Received) where
           device = ap (λ c. c .device) core;
         }
 
-    busy : f .identifier ≡ 0x600 + node (h .core) → waits h sdoReply ≡ true → received h f .head ≡ h
+    busy : f .identifier ≡ 0x600 + node (h .core) → waits h sdoReply ≡ true → step h (receive f) ≡ h
     busy i w = step-nothing h (receive f) refl (unmeant h f v (reply-waits i w))
 
     -- only a request that is answered lets the reply join

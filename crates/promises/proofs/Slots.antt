@@ -14,7 +14,7 @@ use Rattle.parts.specs.declared.Head.{Head}
 use Rattle.promises.specs.States.{isInitialising, one, two}
 use Rattle.promises.specs.WaitingLine.{Kind, emergency, sdoReply, heartbeat, tpdo, number, mayStay}
 use Rattle.promises.specs.Acts.{Act, boot, send, frameBy}
-use Rattle.promises.specs.Calls.{slot, meant, sentBy, isFrame, frameIn, slotted}
+use Rattle.promises.specs.Calls.{slot, meant, sentBy, isFrame, frameIn, slotAnswer}
 use Rattle.promises.specs.Valid.{Valid}
 use Rattle.promises.proofs.KindNumbers.{positive, first-of}
 use Rattle.promises.proofs.States.{not-operational, not-live}
@@ -38,7 +38,7 @@ sent-by c (tpdo two) i = rw i
 module _ (h : Head) where
   -- by what the slot means
   pub answers : {a : Act} → meant h slot ≡ a
-      → (slotted h .waited ≡ isFrame (frameBy (h .core) a)) × (slotted h .frame ≡ frameIn (frameBy (h .core) a))
+      → (isFrame (slotAnswer h) ≡ isFrame (frameBy (h .core) a)) × (frameIn (slotAnswer h) ≡ frameIn (frameBy (h .core) a))
   answers m = (ap (λ x. isFrame (frameBy (h .core) x)) m, ap (λ x. frameIn (frameBy (h .core) x)) m)
 
   pub boots : isInitialising (h .core) ≡ true → meant h slot ≡ boot
@@ -56,10 +56,10 @@ module _ (h : Head) where
     pub sends-first : isInitialising (h .core) ≡ false → (k : Kind) → first (waiting (h .line)) ≡ number k → meant h slot ≡ send k
     sends-first i k e = rw (laws places .first-of (v .line), e) (sent-by (h .core) k i)
 
-    pub none-exactly : (slotted h .waited ≡ false) ↔ ((isInitialising (h .core) ≡ false) × (waiting (h .line) ≡ []))
+    pub none-exactly : (isFrame (slotAnswer h) ≡ false) ↔ ((isInitialising (h .core) ≡ false) × (waiting (h .line) ≡ []))
     none-exactly = (none-left, λ e. rw (e .0, laws places .first-of (v .line), e .1))
       where
-        none-left : slotted h .waited ≡ false → (isInitialising (h .core) ≡ false) × (waiting (h .line) ≡ [])
+        none-left : isFrame (slotAnswer h) ≡ false → (isInitialising (h .core) ≡ false) × (waiting (h .line) ≡ [])
         none-left e =
             test (isInitialising (h .core))
             (λ i. true-false (rw i at e))

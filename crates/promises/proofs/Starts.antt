@@ -7,26 +7,23 @@ use mathlib.Core.Path.{_≡_, refl, sym, ap, subst, _∙_}
 use mathlib.Core.Bool.{Bool, true, false, not, _&&_, cond}
 use mathlib.Core.List.{List, [], _∷_, map}
 use mathlib.Core.Option.{some}
-use borrow.Author.Tests.{eqb-true, le-ltb}
+use borrow.Author.Tests.{le-ltb}
 use Rattle.cases.specs.Tests.{within}
 use Rattle.entries.specs.declared.Device.{Device}
 use Rattle.entries.specs.declared.Identity.{Identity}
 use Rattle.entries.specs.declared.table.Found.the-variants.{At}
 use Rattle.entries.specs.Table.{entries, table, noRow, rowAt, index, sub, width, lookup}
 use Rattle.entries.proofs.Laws.{laws as entries-laws}
-use Rattle.dictionary.specs.declared.read.Shown.{Shown}
-use Rattle.dictionary.specs.declared.read.Shown.the-variants.{Blank, Number}
+use Rattle.dictionary.specs.declared.read.Shown.the-variants.{Number}
 use Rattle.dictionary.specs.Reads.{noEntry, shown, shownAt, reads}
 use Rattle.dictionary.specs.Accepted.{on}
 use Rattle.dictionary.specs.Writes.{written}
 use Rattle.dictionary.specs.Laws.{Shows}
 use Rattle.dictionary.proofs.Columns.{at-place}
 use Rattle.dictionary.proofs.Laws.{shows}
-use Rattle.sdo.specs.Request.{top, indexOf, subOf}
-use Rattle.sdo.specs.Request as request
+use Rattle.sdo.specs.Request.{indexOf}
 use Rattle.sdo.specs.Service.{due}
 use Rattle.sdo.specs.Worked.{bytes}
-use Rattle.sdo.proofs.Laws.{laws as sdo-laws}
 use Rattle.sdo.specs.declared.reply.Effect.{Effect}
 use Rattle.sdo.specs.declared.reply.Effect.the-variants.{Nothing, Reply, Write}
 use Rattle.sdo.specs.Reply.{carriedOut}
@@ -48,6 +45,7 @@ use Rattle.promises.proofs.Valid.{valid-step}
 use Rattle.promises.proofs.Meant.{core-step, resets}
 use Rattle.promises.proofs.Altered.{Altered, heard, timed, sent, refused, took, lost, restarted, served, altered}
 use Rattle.promises.proofs.Kept.{saved-after}
+use Rattle.promises.proofs.Readings.{read-due}
 use Rattle.promises.proofs.Histories.{valid-powered}
 use Rattle.promises.proofs.Demand1.{demand1}
 use Rattle.promises.proofs.SameNode.{node-step, node-after, node-powered}
@@ -64,14 +62,6 @@ same-at f g l m a b p e c =
 all-at : {A : Type 0} (P : A → Type 0) (l : List A) (a : A) → ((k : ℕ) → k < length l → P (getD l k a)) → All P l
 all-at P [] a f = tt
 all-at P (x ∷ xs) a f = (f 0 (omega arith), all-at P xs a (λ k e. f (suc k) (omega (arith, e))))
-
--- what is due to a read of the entry at place p
-read-due : (d : Device) (o : Bool) (f : List ℕ) (p : ℕ) (s : Shown) → request.reading f ≡ true → lookup (indexOf f) (subOf f) ≡ At p
-    → shownAt d o p ≡ s
-    → due d o f ≡ dueShown (width (rowAt p)) s
-unfolding due
-read-due d o f p Blank r q e = rw (q, eqb-true (top f) 2 r, e)
-read-due d o f p (Number m) r q e = sdo-laws d o f .values p m r q e
 
 module _ (n : ℕ) (i : Identity) where
   abbrev d : Device
@@ -126,7 +116,8 @@ module _ (n : ℕ) (i : Identity) where
         let f = reading n (line k .0) (line k .1) .bytes in
         let its-index : indexOf f ≡ line k .0 =
         at-place (λ l. indexOf (reading n (l .0) (l .1) .bytes)) (λ l. l .0) (firstReads n i) noLine k refl indices in
-        read-due d false f k (line k .3) refl (ap (λ x. lookup x (line k .1)) its-index ∙ stands) (shown-at k)
+        read-due d false f k refl (ap (λ x. lookup x (line k .1)) its-index ∙ stands)
+        ∙ ap (dueShown (width (rowAt k))) (shown-at k)
         ∙ ap (λ w. dueShown w (line k .3)) (sym (row-at k .2))
 
     -- the same once the boot-up frame is sent
@@ -136,7 +127,7 @@ module _ (n : ℕ) (i : Identity) where
         ap (λ c. due (c .device) (isIn operational c) (f .bytes)) (core-step (started n i) slot) ∙ entry-due
 
 -- node and identity of a power-up that is refused are 1 and zeros
-powered-is : (p : PowerUp) → powered p ≡ started (nodeOf p) (identityOf p)
+pub powered-is : (p : PowerUp) → powered p ≡ started (nodeOf p) (identityOf p)
 powered-is p = chosen (within 1 127 (p .number))
   where
     chosen : (t : Bool)
@@ -179,7 +170,7 @@ asked p i j =
     none-waits true = refl
     none-waits false = refl
 
-saved-is : (p : PowerUp) → powered p .core .device .saved ≡ powered p .core .device .settings
+pub saved-is : (p : PowerUp) → powered p .core .device .saved ≡ powered p .core .device .settings
 saved-is p = let e = powered-is p in ap (λ (h : Head). h .core .device .saved) e ∙ sym (ap (λ (h : Head). h .core .device .settings) e)
 
 -- No request alters the identity, nor does any call.
@@ -199,7 +190,7 @@ identity-by h _ _ lost = refl
 identity-by h _ _ (restarted f r x) = refl
 identity-by h _ _ (served f x) = identity-carried (h .core .device) (replyDue h f .effect)
 
-identity-after : (cs : List Call) (h : Head) → Valid h → after h cs .core .device .identity ≡ h .core .device .identity
+pub identity-after : (cs : List Call) (h : Head) → Valid h → after h cs .core .device .identity ≡ h .core .device .identity
 identity-after [] h v = refl
 identity-after (c ∷ cs) h v = identity-after cs (step h c) (valid-step h c v) ∙ identity-by h c (step h c .core .device) (altered h v c)
 

@@ -15,7 +15,7 @@ use Rattle.parts.specs.declared.Core.{Core}
 use Rattle.parts.specs.declared.Head.{Head}
 use Rattle.promises.specs.States.{operational, isIn, isInitialising, isLive, node, command, byteOf, commandOf}
 use Rattle.promises.specs.Acts.{Act, nothing}
-use Rattle.promises.specs.Calls.{receive, commanded, synchronised, requested, meant, received}
+use Rattle.promises.specs.Calls.{receive, commanded, synchronised, requested, meant, step}
 use Rattle.promises.specs.Valid.{Valid}
 use Rattle.promises.specs.Meant.{NotMeant, remote, of-29-bits, not-booted, other-identifier, command-length, other-node}
 use Rattle.promises.specs.Meant.{other-command, state-held, sync-length, sync-state, request-length, request-state, reply-waits}
@@ -64,5 +64,5 @@ module _ (h : Head) (f : Received) where
       as-request i (by None (eqb (f .length) 8 && isLive c && not (has line.sdoReply (h .line)))
       (λ _. rw (sdo-laws (c .device) (isIn operational c) (f .bytes) .replied, a)) (λ _. refl))
 
-  pub not-meant : Valid h → NotMeant h f → received h f .head ≡ h
+  pub not-meant : Valid h → NotMeant h f → step h (receive f) ≡ h
   not-meant v m = step-nothing h (receive f) refl (unmeant v m)

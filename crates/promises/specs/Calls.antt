@@ -122,16 +122,16 @@ noIdentity = record { vendor = 0; product = 0; revision = 0; serial = 0 }
 abbrev pub poweredUp : ℕ → Identity → Answer
 poweredUp n i = cond (within 1 127 n) (answered 0 (started n i)) (answered 4 (started 1 noIdentity))
 
--- 1, 2: the number; head unchanged
-abbrev pub received : Head → Received → Answer
-received h f = answered (refusalOf f) (step h (receive f))
+-- The number that a call answers, 0 for no refusal: 1 and 2 for a frame, 3 for a raw sample above 1,048,575.
+abbrev pub refusalBy : Call → ℕ
+refusalBy (receive f) = refusalOf f
+refusalBy tick = 0
+refusalBy (sample s) = cond (badSample s) 3 0
+refusalBy slot = 0
 
-abbrev pub ticked : Head → Head
-ticked h = step h tick
-
--- 3: the number; head unchanged
-abbrev pub sampled : Head → Sensor → Answer
-sampled h s = answered (cond (badSample s) 3 0) (step h (sample s))
+-- slot (answers one frame, or none exactly if none waits)
+abbrev pub slotAnswer : Head → Option Frame
+slotAnswer h = frameBy (h .core) (meant h slot)
 
 abbrev pub noFrame : Frame
 noFrame = frame 0 0 []
@@ -147,6 +147,3 @@ frameIn (some f) = f
 
 abbrev pub sentWith : Option Frame → Head → Sent
 sentWith f h = record { waited = isFrame f; frame = frameIn f; head = h }
-
-abbrev pub slotted : Head → Sent
-slotted h = sentWith (frameBy (h .core) (meant h slot)) (step h slot)

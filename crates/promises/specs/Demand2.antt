@@ -9,11 +9,18 @@ use Rattle.promises.specs.Histories.{after, PowerUp, powered, Reachable}
 use Rattle.promises.specs.NetworkStates.{NetworkStates}
 use Rattle.promises.specs.Starts.{Starts}
 use Rattle.promises.specs.Codes.{Codes}
+use Rattle.promises.specs.Words.{Words}
+use Rattle.promises.specs.Parameters.{Parameters}
 use Rattle.promises.specs.Moments.{Moments}
+use Rattle.promises.specs.Counting.{Counting}
+use Rattle.promises.specs.PassedOver.{PassedOver}
+use Rattle.promises.specs.Emergency.{Emergency}
 use Rattle.promises.specs.Service.{Serves, Answers}
 use Rattle.promises.specs.Readings.{Tells, lastSample, Positioned}
 use Rattle.promises.specs.Effects.{ServedRightly}
 use Rattle.promises.specs.Resets.{Resets}
+use Rattle.promises.specs.Staying.{Staying}
+use Rattle.promises.specs.ByEntries.{ByEntries}
 use Rattle.promises.specs.ErrorList.{ErrorList}
 use Rattle.promises.specs.Worked.{Worked, Printed}
 
@@ -23,9 +30,21 @@ pub record Demand2 : Type 0 where
   pub starts : Starts
   pub states : NetworkStates
   pub codes : Codes
+  -- (by words that mean what 01 says)
+  pub words : Words
   pub resets : Resets
+  -- what entries read later;
+  pub staying : Staying
   -- when each kind joins the waiting line;
   pub moments : (p : PowerUp) (cs : List Call) → Moments p cs
+  -- (ticks and SYNCs being counted so, call by call,)
+  pub counting : (p : PowerUp) (cs : List Call) → Counting p cs
+  -- (by 1014h, 1015h, 1017h, and each PDO's sub 1, sub 2 and sub 5, as they read)
+  pub parameters : (h : Head) → Parameters h
+  -- that a due moment with a missing reading is passed over;
+  pub passed-over : (p : PowerUp) (cs : List Call) → PassedOver p cs
+  -- what the emergency says where it leaves, and what it then announces;
+  pub emergency : (p : PowerUp) (cs : List Call) → Emergency p cs
   -- 1003h counts good-to-missing changes since the list was emptied, at most 4;
   -- 6004h is blank exactly while missing, 1001h and 6503h say so;
   pub error-list : (p : PowerUp) (cs : List Call) → ErrorList p cs
@@ -41,3 +60,4 @@ pub record Demand2 : Type 0 where
   pub served-rightly : ServedRightly
   -- and a position is the exact result of scaling, direction, preset and range.
   pub positioned : (h : Head) → Reachable h → Positioned h
+  pub by-entries : ByEntries

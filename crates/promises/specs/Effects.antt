@@ -25,7 +25,7 @@ use Rattle.parts.specs.declared.Core.{Core}
 use Rattle.parts.specs.declared.Head.{Head}
 use Rattle.promises.specs.States.{operational, isIn, communication, good, PdoNumber, one, two, pdo, clock}
 use Rattle.promises.specs.WaitingLine.{Kind, emergency, sdoReply, heartbeat, tpdo, those, mayAlert}
-use Rattle.promises.specs.Calls.{received}
+use Rattle.promises.specs.Calls.{receive, step}
 use Rattle.promises.specs.Valid.{waits}
 use Rattle.promises.specs.Meant.{Requests, dueTo}
 use Rattle.promises.specs.Histories.{Reachable}
@@ -112,12 +112,12 @@ pub record Effects (f : Received) (k v : ℕ) (h a : Head) : Type 0 where
 -- What a service request that is served does, by what is due to it.
 pub record Served (h : Head) (f : Received) : Type 0 where
   -- an aborted write alters no entry,
-  pub aborted : (code : ℕ) → dueTo h f ≡ abort code → OnlyReplied f h (received h f .head)
+  pub aborted : (code : ℕ) → dueTo h f ≡ abort code → OnlyReplied f h (step h (receive f))
   -- nor does a read,
-  pub read : (width n : ℕ) → dueTo h f ≡ value width n → OnlyReplied f h (received h f .head)
+  pub read : (width n : ℕ) → dueTo h f ≡ value width n → OnlyReplied f h (step h (receive f))
   -- nor does 4 abort (no effect, no reply).
-  pub client-aborts : dueTo h f ≡ service.none → received h f .head ≡ h
-  pub accepted : (k v : ℕ) → dueTo h f ≡ confirmation k v → Effects f k v h (received h f .head)
+  pub client-aborts : dueTo h f ≡ service.none → step h (receive f) ≡ h
+  pub accepted : (k v : ℕ) → dueTo h f ≡ confirmation k v → Effects f k v h (step h (receive f))
 
 abbrev pub ServedRightly : Type 0
 ServedRightly = (h : Head) → Reachable h → (f : Received) → Requests h f → Served h f

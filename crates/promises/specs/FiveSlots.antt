@@ -3,16 +3,17 @@
 use Prim.Native.Nat.{ℕ, _+_, _<_, _≤_}
 use mathlib.Core.Path.{_≡_}
 use mathlib.Core.Logic.{_⊎_, _↔_}
-use mathlib.Core.Bool.{Bool, true, false}
+use mathlib.Core.Bool.{Bool, true, false, Bool·beq}
 use mathlib.Core.List.{List, [], _∷_, _++_}
 use Rattle.can.specs.declared.Frame.{Frame}
-use Rattle.waiting.specs.Line.{places, order, has, Kinds, first}
+use Rattle.dictionary.specs.Accepted.{on}
+use Rattle.waiting.specs.Line.{places, has, Kinds, first}
 use Rattle.waiting.specs.Places.{waiting}
 use Rattle.waiting.specs.Laws.{Among}
 use Rattle.parts.specs.declared.Head.{Head}
-use Rattle.promises.specs.States.{isInitialising, node}
-use Rattle.promises.specs.WaitingLine.{mayStay, Kind, number, frame, bootUpFrame, frameOf}
-use Rattle.promises.specs.Calls.{Call, slot, step, slotted, noFrame}
+use Rattle.promises.specs.States.{operational, isIn, isInitialising, isLive, node, communication, good, one, two, pdo}
+use Rattle.promises.specs.WaitingLine.{Kind, emergency, sdoReply, heartbeat, tpdo, number, bootUpFrame, frameOf}
+use Rattle.promises.specs.Calls.{Call, slot, step, noFrame, slotAnswer, isFrame, frameIn}
 use Rattle.promises.specs.Valid.{waits}
 use Rattle.promises.specs.Histories.{after, slots, Reachable}
 use Rattle.promises.specs.Withdrawals.{Withdrawal}
@@ -21,8 +22,8 @@ use Rattle.promises.specs.Withdrawals.{Withdrawal}
 pub record Sends (h : Head) (c : Call) (k : Kind) : Type 0 where
   pub is-slot : c ≡ slot
   pub is-first : first (waiting (h .line)) ≡ number k
-  pub waited : slotted h .waited ≡ true
-  pub answer : slotted h .frame ≡ frameOf (h .core) k
+  pub waited : isFrame (slotAnswer h) ≡ true
+  pub answer : frameIn (slotAnswer h) ≡ frameOf (h .core) k
 
 -- k waits in the head, and after each of the calls
 abbrev pub WaitsThrough : Head → List Call → Kind → Type 0
@@ -47,7 +48,7 @@ pub record Lined (h : Head) (c : Call) : Type 0 where
   pub joined : List ℕ
   pub line : waiting (step h c .line) ≡ stayed ++ joined
   pub in-places : Among stayed (waiting (h .line))
-  pub in-order : Among joined order
+  pub in-order : Among joined (number emergency ∷ number sdoReply ∷ number heartbeat ∷ number (tpdo one) ∷ number (tpdo two) ∷ [])
   pub keeps : (k : Kind) → waits h k ≡ true → waits (step h c) k ≡ true → has (number k) stayed ≡ true
 
 -- slot (answers one frame, or none exactly if none waits): the boot-up frame in Initialising, else the frame of the first that waits.
@@ -56,14 +57,34 @@ pub data Answered (h : Head) : Bool → Frame → Type 0 where
   kind : (k : Kind) → isInitialising (h .core) ≡ false → first (waiting (h .line)) ≡ number k → Answered h true (frameOf (h .core) k)
   none : isInitialising (h .core) ≡ false → waiting (h .line) ≡ [] → Answered h false noFrame
 
+-- a frame of one byte
+abbrev pub oneByte : ℕ → ℕ → Frame
+oneByte i b = record { identifier = i; length = 1; bytes = b ∷ 0 ∷ 0 ∷ 0 ∷ 0 ∷ 0 ∷ 0 ∷ 0 ∷ [] }
+
 -- The head is in Initialising, no kind waits, and a slot answers the boot-up frame of node n (700h+N, one byte 00h).
 pub record BootUpWaits (n : ℕ) (h : Head) : Type 0 where
   pub initialising : isInitialising (h .core) ≡ true
   pub only : (k : Kind) → waits h k ≡ false
-  pub waited : slotted h .waited ≡ true
-  pub answer : slotted h .frame ≡ frame (0x700 + n) 1 (0x00 ∷ [])
+  pub waited : isFrame (slotAnswer h) ≡ true
+  pub answer : frameIn (slotAnswer h) ≡ oneByte (0x700 + n) 0x00
+
+-- 01's condition for a kind, under which alone it waits.
+abbrev pub May : Head → Kind → Type 0
+-- Emergency: .. (and it waits exactly then: `waits-exactly` of specs/Gap.antt)
+May h emergency =
+    let c = h .core in
+    (isLive c ≡ true) × (on (communication c .emergency) ≡ true) × (c .timers .inhibit ≡ 0) × (Bool·beq (good c) (c .announced) ≡ false)
+-- Service requests: .. Pre-operational or Operational
+May h sdoReply = isLive (h .core) ≡ true
+-- Heartbeat: .. if H > 0; in Initialising only the boot-up frame waits
+May h heartbeat = (isInitialising (h .core) ≡ false) × (0 < communication (h .core) .heartbeat)
+-- TPDO: only when Operational, switched on (bit 31 of sub 1 is 0) and the reading is good
+May h (tpdo w) =
+    let c = h .core in (isIn operational c ≡ true) × (on (pdo (communication c) w .identifier) ≡ true) × (good c ≡ true)
 
 pub record FiveSlots : Type 0 where
+  -- A kind waits exactly if it stands in the line.
+  pub stands : (h : Head) (k : Kind) → (waits h k ≡ true) ↔ ((a : List ℕ) × (b : List ℕ) × (waiting (h .line) ≡ a ++ number k ∷ b))
   -- A frame that begins to wait leaves by the fifth slot after that, no matter what is called between, unless a withdrawal takes it first.
   -- (Of every head in which k waits, whenever it began: so of the head after the call by which it begins to wait.)
   pub by-the-fifth : (h : Head) → Reachable h → (cs : List Call) (k : Kind) → waits h k ≡ true → 5 ≤ slots cs → LeavesBy 5 h cs k
@@ -75,12 +96,15 @@ pub record FiveSlots : Type 0 where
   pub sent : (h : Head) → Reachable h → (c : Call) (k : Kind) → Sends h c k → waits (step h c) k ≡ false
   -- Five kinds can wait: ..; each at most once; and each only under 01's condition for it.
   pub once : (h : Head) → Reachable h → Kinds places (waiting (h .line))
-  pub only-while : (h : Head) → Reachable h → (k : Kind) → waits h k ≡ true → mayStay (h .core) k ≡ true
+  pub only-while : (h : Head) → Reachable h → (k : Kind) → waits h k ≡ true → May h k
+  -- (Each stands in the line by a number of its own; 0 is none's.)
+  pub numbered : (j k : Kind) → number j ≡ number k → j ≡ k
+  pub not-0 : (k : Kind) → 0 < number k
   pub lines-up : (h : Head) → Reachable h → (c : Call) → Lined h c
   -- In Initialising .. only the boot-up frame .. waits: until the next slot, whatever is called before it, and that slot answers it.
   pub boots : (h : Head) → Reachable h → isInitialising (h .core) ≡ true → (cs : List Call) → slots cs ≡ 0
       → BootUpWaits (node (h .core)) (after h cs)
-  pub answers : (h : Head) → Reachable h → Answered h (slotted h .waited) (slotted h .frame)
+  pub answers : (h : Head) → Reachable h → Answered h (isFrame (slotAnswer h)) (frameIn (slotAnswer h))
   -- none exactly if none waits: neither the boot-up frame nor a kind
   pub none-exactly : (h : Head) → Reachable h
-      → (slotted h .waited ≡ false) ↔ ((isInitialising (h .core) ≡ false) × ((k : Kind) → waits h k ≡ false))
+      → (isFrame (slotAnswer h) ≡ false) ↔ ((isInitialising (h .core) ≡ false) × ((k : Kind) → waits h k ≡ false))

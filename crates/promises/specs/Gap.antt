@@ -13,8 +13,8 @@ use Rattle.cases.specs.Tests.{within}
 use Rattle.dictionary.specs.Accepted.{on}
 use Rattle.parts.specs.declared.Head.{Head}
 use Rattle.parts.specs.declared.Sensor.the-variants.{Missing, Raw}
-use Rattle.promises.specs.States.{preOperational, operational, isIn, isInitialising, isLive, node, communication, good, byteOf}
-use Rattle.promises.specs.WaitingLine.{Kind, emergency, sdoReply, heartbeat, tpdo, frame, bootUpFrame, frameOf}
+use Rattle.promises.specs.States.{preOperational, operational, isIn, isInitialising, isLive, node, communication, good}
+use Rattle.promises.specs.WaitingLine.{Kind, emergency, sdoReply, heartbeat, tpdo, bootUpFrame, frameOf}
 use Rattle.promises.specs.Timers.{inhibitTicks}
 use Rattle.promises.specs.Calls.{Call, receive, tick, sample, slot, step}
 use Rattle.promises.specs.Valid.{waits}
@@ -47,10 +47,10 @@ lastEmergency n fs = lastAfter n none fs
 
 -- Frame 80h+N, 8 bytes: 00 50 01 and five zeros for missing (code 5000h), eight zeros for good.
 abbrev pub saysMissing : ℕ → Frame
-saysMissing n = frame (0x80 + n) 8 (0x00 ∷ 0x50 ∷ 0x01 ∷ 0 ∷ 0 ∷ 0 ∷ 0 ∷ 0 ∷ [])
+saysMissing n = record { identifier = 0x80 + n; length = 8; bytes = 0x00 ∷ 0x50 ∷ 0x01 ∷ 0 ∷ 0 ∷ 0 ∷ 0 ∷ 0 ∷ [] }
 
 abbrev pub saysGood : ℕ → Frame
-saysGood n = frame (0x80 + n) 8 (0 ∷ 0 ∷ 0 ∷ 0 ∷ 0 ∷ 0 ∷ 0 ∷ 0 ∷ [])
+saysGood n = record { identifier = 0x80 + n; length = 8; bytes = 0 ∷ 0 ∷ 0 ∷ 0 ∷ 0 ∷ 0 ∷ 0 ∷ 0 ∷ [] }
 
 -- What the last emergency frame said, true for good; good if there is none.
 pub data Said (n : ℕ) : Option Frame → Bool → Type 0 where
@@ -95,8 +95,8 @@ isCommand n t (receive f) =
     not (f .extended || f .remote)
     && eqb (f .identifier) 0x000
     && eqb (f .length) 2
-    && (eqb (byteOf f 1) 0 || eqb (byteOf f 1) n)
-    && t (byteOf f 0)
+    && (eqb (getD (f .bytes) 1 0) 0 || eqb (getD (f .bytes) 1 0) n)
+    && t (getD (f .bytes) 0 0)
 isCommand n t tick = false
 isCommand n t (sample s) = false
 isCommand n t slot = false

@@ -8,7 +8,7 @@ use Rattle.can.specs.declared.Frame.{Frame}
 use Rattle.entries.specs.declared.Identity.{Identity}
 use Rattle.dictionary.specs.Valid.{ValidIdentity}
 use Rattle.parts.specs.declared.Head.{Head}
-use Rattle.promises.specs.Calls.{Call, receive, tick, sample, slot, isSlot, step, poweredUp, slotted}
+use Rattle.promises.specs.Calls.{Call, receive, tick, sample, slot, isSlot, step, poweredUp, slotAnswer, isFrame, frameIn}
 
 -- the head after the calls, the first of them first
 abbrev pub after : Head → List Call → Head
@@ -25,7 +25,7 @@ abbrev pub frames : Head → Call → List Frame
 frames h (receive f) = []
 frames h tick = []
 frames h (sample s) = []
-frames h slot = cond (slotted h .waited) (slotted h .frame ∷ []) []
+frames h slot = cond (isFrame (slotAnswer h)) (frameIn (slotAnswer h) ∷ []) []
 
 -- the frames that the calls send, in order
 abbrev pub sent : Head → List Call → List Frame

@@ -10,8 +10,10 @@ pub mod Histories
 pub mod NetworkStates
 pub mod Service
 pub mod Readings
+pub mod Parameters
 pub mod Withdrawals
 pub mod Moments
+pub mod PassedOver
 pub mod Effects
 pub mod Resets
 pub mod ErrorList
@@ -20,7 +22,12 @@ pub mod Gap
 pub mod Node1
 pub mod Worked
 pub mod Codes
+pub mod Emergency
 pub mod Demand1
 pub mod Starts
+pub mod Staying
+pub mod ByEntries
+pub mod Words
+pub mod Counting
 pub mod Demand2
 pub mod Demand3

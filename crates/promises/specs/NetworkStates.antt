@@ -6,7 +6,7 @@ use Rattle.can.specs.declared.Received.{Received}
 use Rattle.parts.specs.declared.Head.{Head}
 use Rattle.parts.specs.declared.Nmt.{Nmt}
 use Rattle.promises.specs.States.{CommandedState, preOperational, state, initialising, isInitialising, Reset, toEnter, toReset}
-use Rattle.promises.specs.Calls.{Call, receive, slot, step, ticked}
+use Rattle.promises.specs.Calls.{Call, receive, slot, step, tick}
 use Rattle.promises.specs.Meant.{Commands}
 use Rattle.promises.specs.Histories.{PowerUp, powered, Reachable}
 
@@ -26,4 +26,4 @@ pub record NetworkStates : Type 0 where
   -- and no other call alters the state
   pub only-so : (h : Head) → Reachable h → (c : Call) → Enters h c (step h c .core .nmt) ⊎ (step h c .core .nmt ≡ h .core .nmt)
   -- In Initialising .. timers stand
-  pub timers-stand : (h : Head) → isInitialising (h .core) ≡ true → ticked h ≡ h
+  pub timers-stand : (h : Head) → isInitialising (h .core) ≡ true → step h tick ≡ h

@@ -1,7 +1,7 @@
 -- What 6004h, 1001h, 6503h and the position frames tell of the samples, over any sequence of calls: demand 2's "a
 -- position is the exact result of scaling, direction, preset and range". 01's chapters "Entries" and "Position".
 use Prim.Native.Nat.{ℕ}
-use lib.Dec.{eqb}
+use lib.Dec.{eqb, ltb}
 use mathlib.Core.Path.{_≡_}
 use mathlib.Core.Logic.{_↔_}
 use mathlib.Core.Bool.{Bool, true, false, _||_, cond}
@@ -26,8 +26,8 @@ use Rattle.cases.specs.Padded.{pad}
 use Rattle.parts.specs.declared.Head.{Head}
 use Rattle.parts.specs.declared.Sensor.{Sensor}
 use Rattle.parts.specs.declared.Sensor.the-variants.{Missing, Raw}
-use Rattle.promises.specs.States.{operational, isIn, communication, missingReading, PdoNumber, pdo, ofNode, toReset}
-use Rattle.promises.specs.Calls.{Call, receive, tick, sample, slot, badSample, step, received, slotted}
+use Rattle.promises.specs.States.{operational, isIn, communication, good, missingReading, PdoNumber, pdo, ofNode, toReset}
+use Rattle.promises.specs.Calls.{Call, receive, tick, sample, slot, badSample, step, slotAnswer, isFrame, frameIn}
 use Rattle.promises.specs.Meant.{Commands, dueTo, Writes}
 use Rattle.promises.specs.Histories.{after}
 
@@ -38,11 +38,12 @@ readsIn h i j = reads (h .core .device) (isIn operational (h .core)) i j
 abbrev pub profileOf : Head → Profile
 profileOf h = h .core .device .settings .profile
 
--- The last sample that was taken, s before the calls. A refused one leaves the head unchanged.
+-- The last sample that was taken, s before the calls. 3: a raw sample above 1,048,575 is refused, and leaves the head unchanged.
 abbrev pub sampleBy : Sensor → Call → Sensor
 sampleBy s (receive f) = s
 sampleBy s tick = s
-sampleBy s (sample t) = cond (badSample t) s t
+sampleBy s (sample Missing) = Missing
+sampleBy s (sample (Raw r)) = cond (ltb 1048575 r) s (Raw r)
 sampleBy s slot = s
 
 abbrev pub lastSample : Sensor → List Call → Sensor
@@ -71,6 +72,8 @@ dueShown width (Number n) = value width n
 -- Of every sequence of calls from power-up, s being its last sample. Before the first it is missing, and 6004h is blank, not 0.
 pub record Tells (h : Head) (s : Sensor) : Type 0 where
   pub reading-is : h .core .device .reading ≡ readingOf s
+  -- the present reading (good or missing)
+  pub is-good : (good (h .core) ≡ true) ↔ ((r : ℕ) × (s ≡ Raw r))
   pub position : readsIn h 0x6004 0 ≡ some (shownPosition (profileOf h) s)
   pub blank : (readsIn h 0x6004 0 ≡ some Blank) ↔ (s ≡ Missing)
   pub register : readsIn h 0x1001 0 ≡ some (shownRegister s)
@@ -110,8 +113,9 @@ pub record Positioned (h : Head) : Type 0 where
   -- Direction 0: d = c; 1: d = T − 1 − c
   pub mirrors : (r : ℕ) → Mirrors (profileOf h) r
   -- Accepted 6003h = p: .. so the position reads p,
-  pub presets : (f : Received) (v : ℕ) → Writes h f 0x6003_00 v → readsIn (received h f .head) 0x6004 0 ≡ some (Number v)
+  pub presets : (f : Received) (v : ℕ) → Writes h f 0x6003_00 v → readsIn (step h (receive f)) 0x6004 0 ≡ some (Number v)
   -- and goes on reading it until a call alters it
   pub stays : (cs : List Call) → Unmoved h cs → readsIn (after h cs) 0x6004 0 ≡ readsIn h 0x6004 0
   -- The frame carries the position at the slot: every frame with an identifier in 181h..57Fh does.
-  pub carries : slotted h .waited ≡ true → within 0x181 0x57F (slotted h .frame .identifier) ≡ true → Carries h (slotted h .frame)
+  pub carries : isFrame (slotAnswer h) ≡ true → within 0x181 0x57F (frameIn (slotAnswer h) .identifier) ≡ true
+      → Carries h (frameIn (slotAnswer h))

@@ -24,7 +24,7 @@ use Rattle.parts.specs.declared.Head.{Head}
 use Rattle.promises.specs.States.{preOperational, state, isInitialising, node, communication, good}
 use Rattle.promises.specs.States.{atRest, Reset, ofNode, ofCommunication, restored, toReset}
 use Rattle.promises.specs.Acts.{resetTo}
-use Rattle.promises.specs.Calls.{Call, receive, tick, sample, slot, step, received, slotted}
+use Rattle.promises.specs.Calls.{Call, receive, tick, sample, slot, step}
 use Rattle.promises.specs.Meant.{Commands, Writes}
 use Rattle.promises.specs.Histories.{after, Reachable}
 use Rattle.promises.specs.Readings.{readsIn}
@@ -93,25 +93,26 @@ None Such h (c ∷ cs) = (Such h c → ⊥) × None Such (step h c) cs
 -- After an accepted write to the entry of key k, whatever comes then but a save or a load, a reset restores the settings s.
 abbrev pub Restores : ℕ → (Head → Settings) → Type 0
 Restores k s =
-    (h : Head) → Reachable h → (f : Received) (v : ℕ) → Writes h f k v → (cs : List Call) → None Saves (received h f .head) cs
-    → let later = after (received h f .head) cs in (g : Received) (r : Reset) → Commands later g (toReset r)
-    → received later g .head .core .device .settings ≡ restored r (later .core .device .settings) (s h)
+    (h : Head) → Reachable h → (f : Received) (v : ℕ) → Writes h f k v → (cs : List Call) → None Saves (step h (receive f)) cs
+    → let later = after (step h (receive f)) cs in (g : Received) (r : Reset) → Commands later g (toReset r)
+    → step later (receive g) .core .device .settings ≡ restored r (later .core .device .settings) (s h)
 
 pub record Resets : Type 0 where
-  pub resets : (h : Head) → Reachable h → (f : Received) (r : Reset) → Commands h f (toReset r) → HasReset r h (received h f .head)
-  pub boots : (h : Head) → Reachable h → isInitialising (h .core) ≡ true → HasBooted h (slotted h .head)
+  pub resets : (h : Head) → Reachable h → (f : Received) (r : Reset) → Commands h f (toReset r) → HasReset r h (step h (receive f))
+  pub boots : (h : Head) → Reachable h → isInitialising (h .core) ≡ true → HasBooted h (step h slot)
   -- no call but an accepted write or a reset alters the settings,
   pub settings-stay : (h : Head) → Reachable h → (cs : List Call) → None Alters h cs
       → after h cs .core .device .settings ≡ h .core .device .settings
   -- so that what was written is read, whatever comes then but these; 1003-0 counts on
   pub reads-on : (h : Head) → Reachable h → (f : Received) (k v : ℕ) → Writes h f k v → (k ≡ 0x1003_00 → ⊥) → (cs : List Call)
-      → None Alters (received h f .head) cs
-      → readsIn (after (received h f .head) cs) (indexOf (f .bytes)) (subOf (f .bytes)) ≡ some (Number (readBack k v))
+      → None Alters (step h (receive f)) cs
+      → readsIn (after (step h (receive f)) cs) (indexOf (f .bytes)) (subOf (f .bytes)) ≡ some (Number (readBack k v))
   -- and no call but an accepted write of 1010-1 or 1011-1 the saved set
   pub saved-stays : (h : Head) → Reachable h → (cs : List Call) → None Saves h cs → after h cs .core .device .saved ≡ h .core .device .saved
   -- "save" copies the settings (.. plus the offset) to the saved set.
   pub saves : Restores 0x1010_01 (λ h. h .core .device .settings)
   -- "load" makes the saved set factory; running settings change at the next reset.
   pub loads : Restores 0x1011_01 (λ h. factory (node (h .core)))
-  pub runs-on : (h : Head) → Reachable h → (f : Received) (v : ℕ) → Writes h f 0x1011_01 v → (i j : ℕ)
-      → readsIn (received h f .head) i j ≡ readsIn h i j
+  -- Neither alters what an entry reads now.
+  pub runs-on : (h : Head) → Reachable h → (f : Received) → Saves h (receive f) → (i j : ℕ)
+      → readsIn (step h (receive f)) i j ≡ readsIn h i j

@@ -19,7 +19,7 @@ use Rattle.parts.specs.declared.Head.{Head}
 use Rattle.promises.specs.States.{operational, stopped, preOperational, isInitialising, isLive}
 use Rattle.promises.specs.States.{node, Command, noCommand, toEnter, toReset, commandOf}
 use Rattle.promises.specs.WaitingLine.{sdoReply, number}
-use Rattle.promises.specs.Calls.{Call, receive, tick, sample, slot, step, received, slotted}
+use Rattle.promises.specs.Calls.{Call, receive, tick, sample, slot, step, slotAnswer, isFrame, frameIn}
 use Rattle.promises.specs.Valid.{waits}
 use Rattle.promises.specs.Meant.{Requests, dueTo}
 use Rattle.promises.specs.Histories.{after, sent, PowerUp, powered}
@@ -64,7 +64,7 @@ replyFrame n bytes = record { identifier = 0x580 + n; length = 8; bytes = bytes 
 
 -- the slot answers a frame 580h+N
 abbrev pub sendsReply : Head → Bool
-sendsReply h = slotted h .waited && eqb (slotted h .frame .identifier) (0x580 + node (h .core))
+sendsReply h = isFrame (slotAnswer h) && eqb (frameIn (slotAnswer h) .identifier) (0x580 + node (h .core))
 
 -- Withdrawals: a reset takes all; entering Stopped takes all but the heartbeat. The command takes the reply.
 abbrev pub takesReply : Command → Bool
@@ -112,9 +112,9 @@ repliesIn n (f ∷ fs) = cond (eqb (f .identifier) (0x580 + n)) 1 0 + repliesIn 
 pub record Serves (h : Head) : Type 0 where
   pub is-request : (f : Received) → (isRequest h f ≡ true) ↔ Requests h f
   -- First that applies
-  pub gets-what-is-due : (f : Received) → Requests h f → aborting (f .bytes) ≡ false → Replied h f (received h f .head)
+  pub gets-what-is-due : (f : Received) → Requests h f → aborting (f .bytes) ≡ false → Replied h f (step h (receive f))
   -- While a reply waits, a further request has no effect.
-  pub busy : (f : Received) → f .identifier ≡ 0x600 + node (h .core) → waits h sdoReply ≡ true → received h f .head ≡ h
+  pub busy : (f : Received) → f .identifier ≡ 0x600 + node (h .core) → waits h sdoReply ≡ true → step h (receive f) ≡ h
 
 -- Of every sequence of calls from power-up.
 pub record Answers (p : PowerUp) (cs : List Call) : Type 0 where
@@ -124,6 +124,6 @@ pub record Answers (p : PowerUp) (cs : List Call) : Type 0 where
   pub alone : (b : List ℕ) → owed (powered p) none cs ≡ some b → (f : Received) → isAnswered (after (powered p) cs) f ≡ false
   -- and what a slot sends as a reply is what is owed
   pub sends : let h = after (powered p) cs in sendsReply h ≡ true
-      → (b : List ℕ) × (owed (powered p) none cs ≡ some b) × (slotted h .frame ≡ replyFrame (node (powered p .core)) b)
+      → (b : List ℕ) × (owed (powered p) none cs ≡ some b) × (frameIn (slotAnswer h) ≡ replyFrame (node (powered p .core)) b)
   -- to each request at most one reply
   pub at-most-one : repliesIn (node (powered p .core)) (sent (powered p) cs) ≤ answeredIn (powered p) cs

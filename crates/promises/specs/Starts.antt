@@ -13,7 +13,7 @@ use Rattle.entries.specs.Table.{table, index, sub, width}
 use Rattle.dictionary.specs.declared.read.Shown.{Shown}
 use Rattle.dictionary.specs.declared.read.Shown.the-variants.{Blank, Number}
 use Rattle.promises.specs.States.{Reset, restored, toReset}
-use Rattle.promises.specs.Calls.{Call, slot, step, received}
+use Rattle.promises.specs.Calls.{Call, slot, step, receive}
 use Rattle.promises.specs.Meant.{Commands, Requests, dueTo}
 use Rattle.promises.specs.Histories.{after, PowerUp, powered}
 use Rattle.promises.specs.Readings.{readsIn, dueShown}
@@ -108,7 +108,7 @@ pub record Starts : Type 0 where
   -- so that a reset restores these until 1010-1 or 1011-1 was written: 81h all of them, 82h those below 2000h
   pub restores : (p : PowerUp) (cs : List Call) → None Saves (powered p) cs → let h = after (powered p) cs in (f : Received) (r : Reset)
       → Commands h f (toReset r)
-      → received h f .head .core .device .settings ≡ restored r (h .core .device .settings) (powered p .core .device .settings)
+      → step h (receive f) .core .device .settings ≡ restored r (h .core .device .settings) (powered p .core .device .settings)
   -- Power-up takes .. four identity numbers; no call alters them.
   pub same-identity : (p : PowerUp) (cs : List Call) → after (powered p) cs .core .device .identity ≡ identityOf p
   -- 4: .. and a head of node 1 with identity numbers 0

@@ -8,13 +8,13 @@ use Rattle.sdo.specs.Worked.{bytes}
 use Rattle.parts.specs.declared.Head.{Head}
 use Rattle.parts.specs.declared.Sensor.the-variants.{Missing, Raw}
 use Rattle.promises.specs.WaitingLine.{frame}
-use Rattle.promises.specs.Calls.{Call, receive, tick, sample, slot, step, slotted, noFrame}
+use Rattle.promises.specs.Calls.{Call, receive, tick, sample, slot, step, noFrame, slotAnswer, isFrame, frameIn}
 use Rattle.promises.specs.Histories.{after}
 use Rattle.promises.specs.Node1.{node1, request, read6004, asks, writes}
 
 -- what a slot answers: a frame, or none
 abbrev pub answer : Head → Bool × Frame
-answer h = (slotted h .waited, slotted h .frame)
+answer h = (isFrame (slotAnswer h), frameIn (slotAnswer h))
 
 abbrev pub sends : ℕ → ℕ → List ℕ → Bool × Frame
 sends identifier length content = (true, frame identifier length content)

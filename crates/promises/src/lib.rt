@@ -1,1 +1,10 @@
-//! No code: what the head's calls mean, and the promises about every sequence of them.
+//! What the head's calls mean, and the promises about every sequence of them.
+
+ghost use Rattle.promises.specs.Demand1.{Demand1};
+ghost use Rattle.promises.specs.Demand2.{Demand2};
+ghost use Rattle.promises.specs.Demand3.{Demand3};
+
+// It does nothing: what it ensures are the three demands, so that the crate is proved only if they are.
+fn demands()
+    ensures { λ _. ⌜ Demand1 × Demand2 × Demand3 ⌝ }
+{}

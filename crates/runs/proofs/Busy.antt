@@ -44,4 +44,6 @@ busy-line =
       over = refl;
       unrelieved-still = unrelieved-still;
       told-then = gap .gap-is-told power-up (held ++ wait) busyMaster refl refl refl unrelieved-still (omega arith);
+      leaves = record { waited = refl; identifier = refl };
+      good-again = refl;
     }

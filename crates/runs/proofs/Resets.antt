@@ -21,7 +21,7 @@ use Rattle.sdo.specs.Worked.{bytes}
 use Rattle.parts.specs.declared.Head.{Head}
 use Rattle.promises.specs.States.{missingReading, ofNode, toReset}
 use Rattle.promises.specs.Acts.{settledTo, act}
-use Rattle.promises.specs.Calls.{receive, received}
+use Rattle.promises.specs.Calls.{receive, step}
 use Rattle.promises.specs.Meant.{Commands, dueTo}
 use Rattle.promises.specs.Histories.{after}
 use Rattle.promises.specs.Node1.{node1, toNode1, writes, toAll}
@@ -68,9 +68,9 @@ module _ (b : List ℕ) (k v n : ℕ) where
   abbrev f : Received
   f = toNode1 b
 
-  met : dueTo settled f ≡ confirmation k v → None Saves (received settled f .head) between
-      → Commands (after (received settled f .head) between) (toAll 0x81) (toReset ofNode)
-      → readsIn (received (after (received settled f .head) between) (toAll 0x81) .head) 0x1017 0 ≡ some (Number n)
+  met : dueTo settled f ≡ confirmation k v → None Saves (step settled (receive f)) between
+      → Commands (after (step settled (receive f)) between) (toAll 0x81) (toReset ofNode)
+      → readsIn (step (after (step settled (receive f)) between) (receive (toAll 0x81))) 0x1017 0 ≡ some (Number n)
       → Met (after node1 beating) f k v n
   met accepted none-saves commands reads-again =
       subst (λ h. Met h f k v n) (sym beating-is)

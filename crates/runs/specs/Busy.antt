@@ -1,5 +1,5 @@
 -- A busy line on which the reading goes missing, by calls from power-up of
--- node 1: what `Gap` of crate promises asks for is met, and what is sent then.
+-- node 1: what `Gap` and `Emergency` of crate promises ask for is met, and what is sent then.
 use lib.ListN.{replicate}
 use mathlib.Core.Path.{_≡_}
 use mathlib.Core.Bool.{true, false}
@@ -9,10 +9,12 @@ use Rattle.sdo.specs.Worked.{bytes}
 use Rattle.waiting.specs.Line.{emergency, sdoReply, heartbeat, tpdo1, tpdo2}
 use Rattle.parts.specs.declared.Sensor.the-variants.{Missing, Raw}
 use Rattle.promises.specs.States.{isLive}
+use Rattle.promises.specs.WaitingLine.{frame}
 use Rattle.promises.specs.Calls.{Call, tick, sample, slot, step}
 use Rattle.promises.specs.Histories.{after, slots, sent}
-use Rattle.promises.specs.Node1.{node1, asks, writes, command, sync}
+use Rattle.promises.specs.Node1.{node1, request, asks, writes, command, sync}
 use Rattle.promises.specs.Gap.{among, lastEmergency, saysMissing, saysGood, isPosition, Unrelieved}
+use Rattle.promises.specs.Emergency.{Alerts}
 
 -- Boot-up, missing told, a good sample told, 1017h = 1, Operational: TPDO1, the heartbeat, a reply and TPDO2 wait.
 abbrev pub busyLine : List Call
@@ -32,6 +34,11 @@ held = slot ∷ slot ∷ writes (bytes 0x2B 0x15 0x10 0x00 0x5F 0x00 0 0) ++ sam
 -- ten ticks with a slot after them, which sends nothing; and the eleventh
 abbrev pub wait : List Call
 wait = replicate 10 tick ++ slot ∷ tick ∷ []
+
+-- 1015h = 1,000, 100 ms, so 101 ticks from the emergency frame that says missing; then a good sample, and a slot before the last tick
+abbrev pub slow : List Call
+slow =
+    slot ∷ request (bytes 0x2B 0x15 0x10 0x00 0xE8 0x03 0 0) ∷ slot ∷ slot ∷ sample (Raw 7) ∷ replicate 100 tick ++ slot ∷ tick ∷ slot ∷ []
 
 pub record Busy : Type 0 where
   -- what waits when the reading goes missing, and what waits then
@@ -55,3 +62,12 @@ pub record Busy : Type 0 where
   pub over : after node1 (held ++ wait) .core .timers .inhibit ≡ 0
   pub unrelieved-still : Unrelieved 1 (after node1 (held ++ wait)) busyMaster
   pub told-then : lastEmergency 1 (sent node1 ((held ++ wait) ++ busyMaster)) ≡ some (saysMissing 1)
+  -- After boot-up the emergency leaves at the next slot, as `Emergency` asks.
+  pub leaves : Alerts 1 (after node1 (slot ∷ []))
+  -- Under a long inhibit time too good is told again.
+  pub good-again : sent node1 slow
+      ≡ frame 0x701 1 (0x00 ∷ [])
+      ∷ frame 0x081 8 (bytes 0x00 0x50 0x01 0 0 0 0 0)
+      ∷ frame 0x581 8 (bytes 0x60 0x15 0x10 0x00 0 0 0 0)
+      ∷ frame 0x081 8 (bytes 0 0 0 0 0 0 0 0)
+      ∷ []

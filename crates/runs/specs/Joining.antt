@@ -1,6 +1,7 @@
 -- Runs of node 1 from power-up in which the heartbeat and the PDOs join at their
--- moments: what `Moments` of crate promises asks for is met, and what waits then.
+-- moments: what `Moments` and `PassedOver` of crate promises ask for is met, and what waits then.
 use Prim.Native.Nat.{ℕ}
+use lib.ListN.{replicate}
 use mathlib.Core.Path.{_≡_}
 use mathlib.Core.List.{List, [], _∷_, _++_}
 use Rattle.sdo.specs.Worked.{bytes}
@@ -9,10 +10,13 @@ use Rattle.waiting.specs.Places.{waiting}
 use Rattle.parts.specs.declared.Head.{Head}
 use Rattle.parts.specs.declared.Sensor.the-variants.{Missing, Raw}
 use Rattle.promises.specs.States.{one, two}
+use Rattle.promises.specs.WaitingLine.{frame}
 use Rattle.promises.specs.Calls.{Call, tick, sample, slot, step}
-use Rattle.promises.specs.Histories.{after}
+use Rattle.promises.specs.Histories.{after, sent}
 use Rattle.promises.specs.Node1.{node1, request, writes, command, sync}
-use Rattle.promises.specs.Moments.{since, beatsAnew, beatCounts, ticksAnew, tickCounts, syncsAnew, synchronises}
+use Rattle.promises.specs.Worked.{missing}
+use Rattle.promises.specs.Moments.{since, beatsAnew, beatCounts, ticksAnew, tickCounts, syncsAnew, synchronises, Counts}
+use Rattle.promises.specs.PassedOver.{Due}
 
 -- what waits after each of the calls
 abbrev pub lines : Head → List Call → List (List ℕ)
@@ -63,6 +67,16 @@ good = slot ∷ sample (Raw 7) ∷ []
 abbrev pub operating : List Call
 operating = command 0x01 ∷ slot ∷ []
 
+-- 1017h = 100, and while TPDO2 is off 1801-2 = 254 and 1801-5 = 100, as TPDO1 has them; entering Operational, where both join and are sent
+abbrev pub every100 : List Call
+every100 =
+    good ++ writes (bytes 0x2B 0x17 0x10 0x00 100 0 0 0) ++ off2 ++ writes (bytes 0x2F 0x01 0x18 0x02 254 0 0 0)
+    ++ writes (bytes 0x2B 0x01 0x18 0x05 100 0 0 0) ++ on2 ++ command 0x01 ∷ slot ∷ slot ∷ []
+
+-- TPDO2, of type 2, one SYNC in Operational, and then the reading goes missing
+abbrev pub lostBetween : List Call
+lostBetween = good ++ second ++ operating ++ sync ∷ sample Missing ∷ []
+
 pub record Joining : Type 0 where
   -- The heartbeat joins at the third tick and at the sixth, though a slot sends it between: one right away, one a tick later.
   pub beats : Leave (good ++ every3) (tick ∷ tick ∷ tick ∷ slot ∷ tick ∷ tick ∷ tick ∷ [])
@@ -89,6 +103,21 @@ pub record Joining : Type 0 where
   -- A due moment with a missing reading is passed over: the third tick; the sixth is the next.
   pub passed-over : Leave (good ++ event3 ++ operating) (tick ∷ tick ∷ sample Missing ∷ tick ∷ sample (Raw 7) ∷ tick ∷ tick ∷ tick ∷ [])
       ([] ∷ [] ∷ (emergency ∷ []) ∷ (emergency ∷ []) ∷ [] ∷ [] ∷ [] ∷ (tpdo1 ∷ []) ∷ [])
+  -- and so the second SYNC, the fourth is the next; and entry, from which three ticks are counted
+  pub sync-passed-over : Leave (good ++ second ++ operating) (sync ∷ sample Missing ∷ sync ∷ sample (Raw 7) ∷ sync ∷ sync ∷ [])
+      ([] ∷ (emergency ∷ []) ∷ (emergency ∷ []) ∷ [] ∷ [] ∷ (tpdo2 ∷ []) ∷ [])
+  pub due-and-missing : (n : Counts) → n .syncs two ≡ 1 → Due (after node1 lostBetween) n sync two
+  pub counted-to-it : since (syncsAnew two) synchronises node1 lostBetween 0 ≡ 1
+  pub entry-passed-over : Leave (missing ++ event3) (command 0x01 ∷ sample (Raw 7) ∷ slot ∷ tick ∷ tick ∷ tick ∷ [])
+      ([] ∷ (emergency ∷ []) ∷ [] ∷ [] ∷ [] ∷ (tpdo1 ∷ []) ∷ [])
+  -- Several joining in one call join in the order just given: the heartbeat, TPDO1 and TPDO2, at the hundredth tick.
+  pub none-yet : waiting (after node1 (every100 ++ replicate 99 tick) .line) ≡ []
+  pub several : waiting (after node1 (every100 ++ replicate 100 tick) .line) ≡ heartbeat ∷ tpdo1 ∷ tpdo2 ∷ []
+  pub in-order : sent (after node1 (every100 ++ replicate 100 tick)) (slot ∷ slot ∷ slot ∷ slot ∷ [])
+      ≡ frame 0x701 1 (0x05 ∷ [])
+      ∷ frame 0x181 4 (0x07 ∷ 0x00 ∷ 0x00 ∷ 0x00 ∷ [])
+      ∷ frame 0x281 4 (0x07 ∷ 0x00 ∷ 0x00 ∷ 0x00 ∷ [])
+      ∷ []
   -- TPDO2, of type 2, joins at the second SYNC and at the fourth, and at no tick
   pub syncs : Leave (good ++ second ++ operating) (sync ∷ sync ∷ slot ∷ tick ∷ sync ∷ sync ∷ [])
       ([] ∷ (tpdo2 ∷ []) ∷ [] ∷ [] ∷ [] ∷ (tpdo2 ∷ []) ∷ [])

@@ -8,7 +8,7 @@ use Rattle.cases.specs.Tests.{within}
 use Rattle.dictionary.specs.declared.read.Shown.the-variants.{Blank, Number}
 use Rattle.sdo.specs.Worked.{bytes}
 use Rattle.parts.specs.declared.Sensor.the-variants.{Raw}
-use Rattle.promises.specs.Calls.{Call, sample, slot, slotted, tick}
+use Rattle.promises.specs.Calls.{Call, sample, slot, tick, slotAnswer, isFrame, frameIn}
 use Rattle.promises.specs.Meant.{Writes}
 use Rattle.promises.specs.Histories.{after}
 use Rattle.promises.specs.Node1.{node1, toNode1, request, command}
@@ -29,5 +29,5 @@ pub record Positioning : Type 0 where
   -- a tick, a sample that is refused, and the slot that sends the reply
   pub unmoved : Unmoved (after node1 (ready ++ request to40 ∷ [])) (tick ∷ sample (Raw 1048576) ∷ slot ∷ [])
   pub reads-preset : readsIn (after node1 (ready ++ request to40 ∷ tick ∷ sample (Raw 1048576) ∷ slot ∷ [])) 0x6004 0 ≡ some (Number 40)
-  pub waits : slotted (after node1 (ready ++ command 0x01 ∷ [])) .waited ≡ true
-  pub shows : within 0x181 0x57F (slotted (after node1 (ready ++ command 0x01 ∷ [])) .frame .identifier) ≡ true
+  pub waits : isFrame (slotAnswer (after node1 (ready ++ command 0x01 ∷ []))) ≡ true
+  pub shows : within 0x181 0x57F (frameIn (slotAnswer (after node1 (ready ++ command 0x01 ∷ []))) .identifier) ≡ true

@@ -9,7 +9,7 @@ use Rattle.dictionary.specs.Worked.{save, load}
 use Rattle.sdo.specs.Worked.{bytes}
 use Rattle.parts.specs.declared.Head.{Head}
 use Rattle.promises.specs.States.{ofNode, toReset}
-use Rattle.promises.specs.Calls.{Call, slot, received}
+use Rattle.promises.specs.Calls.{Call, slot, receive, step}
 use Rattle.promises.specs.Meant.{Commands, Writes}
 use Rattle.promises.specs.Histories.{after, Reachable}
 use Rattle.promises.specs.Node1.{node1, writes, toAll, command}
@@ -31,9 +31,9 @@ between = slot ∷ writes (bytes 0x2B 0x17 0x10 0x00 0xF4 0x01 0 0)
 pub record Met (h : Head) (f : Received) (k v n : ℕ) : Type 0 where
   pub reachable : Reachable h
   pub written : Writes h f k v
-  pub none-saves : None Saves (received h f .head) between
-  pub commands : Commands (after (received h f .head) between) (toAll 0x81) (toReset ofNode)
-  pub reads-again : readsIn (received (after (received h f .head) between) (toAll 0x81) .head) 0x1017 0 ≡ some (Number n)
+  pub none-saves : None Saves (step h (receive f)) between
+  pub commands : Commands (after (step h (receive f)) between) (toAll 0x81) (toReset ofNode)
+  pub reads-again : readsIn (step (after (step h (receive f)) between) (receive (toAll 0x81))) 0x1017 0 ≡ some (Number n)
 
 -- "save": 1017h is 1,000 again; "load": it is 0, the factory's
 abbrev pub MetBySave : Type 0

@@ -3,7 +3,7 @@ use mathlib.Core.Path.{_≡_}
 use mathlib.Core.Option.{some}
 use Rattle.dictionary.specs.declared.read.Shown.the-variants.{Number}
 use Rattle.promises.specs.States.{ofNode, toReset}
-use Rattle.promises.specs.Calls.{received}
+use Rattle.promises.specs.Calls.{receive, step}
 use Rattle.promises.specs.Meant.{Commands}
 use Rattle.promises.specs.Histories.{after}
 use Rattle.promises.specs.Readings.{readsIn}
@@ -17,6 +17,6 @@ pub record StartsMet : Type 0 where
   pub none-saves : None Saves node1 beating
   pub reads-written : readsIn (after node1 beating) 0x1017 0 ≡ some (Number 1000)
   pub commands : Commands (after node1 beating) (toAll 0x81) (toReset ofNode)
-  pub reads-again : readsIn (received (after node1 beating) (toAll 0x81) .head) 0x1017 0 ≡ some (Number 0)
+  pub reads-again : readsIn (step (after node1 beating) (receive (toAll 0x81))) 0x1017 0 ≡ some (Number 0)
   -- 128 is refused
   pub bad-node : BadNode 128

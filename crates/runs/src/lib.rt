@@ -1,1 +1,20 @@
-//! No code: runs of node 1 by calls from power-up. They meet what the promises ask for, and show what is then sent.
+//! Runs of node 1 by calls from power-up. They meet what the promises ask for, and show what is then sent.
+
+ghost use Rattle.runs.specs.Busy.{Busy};
+ghost use Rattle.runs.specs.Codes.{CodesMet};
+ghost use Rattle.runs.specs.Effects.{MetWhenReady};
+ghost use Rattle.runs.specs.ErrorList.{Losing};
+ghost use Rattle.runs.specs.FullLine.{FullLine};
+ghost use Rattle.runs.specs.Joining.{Joining};
+ghost use Rattle.runs.specs.Readings.{Positioning};
+ghost use Rattle.runs.specs.Resets.{MetByLoad, MetBySave, Restoring};
+ghost use Rattle.runs.specs.Service.{Serving};
+ghost use Rattle.runs.specs.Starts.{StartsMet};
+
+// It does nothing: what it ensures are the statements of the crate, so that the crate is proved only if they are.
+fn statements()
+    ensures { λ _. ⌜
+        FullLine × Busy × Joining × CodesMet × Serving × MetWhenReady × Positioning × Losing × MetBySave × MetByLoad
+        × Restoring × StartsMet
+        ⌝ }
+{}

@@ -1,7 +1,11 @@
 pub mod Numbers
+pub mod Digits
+pub mod Fields
+pub mod Formed
 pub mod Padded
 pub mod Growing
 pub mod Roundtrip
+pub mod Forms
 pub mod Bounds
 pub mod Laws
 pub mod Worked

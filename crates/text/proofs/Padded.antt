@@ -1,11 +1,11 @@
 -- A list in n places: what it does not fill is 0, and no more than n can be taken. Assumes nothing.
 use mathlib.Core.Path.{_≡_, refl, sym, _∙_}
 use mathlib.Core.List.{List, [], _∷_, _++_}
-use Prim.Native.Nat.{ℕ, zero, suc, _≤_}
-use native.Mathlib.Nat.{not-suc-le-zero, le-of-suc-le-suc}
+use Prim.Native.Nat.{ℕ, zero, suc, _-_, _≤_}
+use native.Mathlib.Nat.{not-suc-le-zero, le-of-suc-le-suc, sub-zero}
 use native.Mathlib.Omega.{arith}
 use lib.Dec.{ltb}
-use lib.ListN.{length, take}
+use lib.ListN.{length, take, replicate}
 use lib.Seq.{take-all, length-take-le}
 use Rattle.cases.specs.Padded.{pad}
 use Rattle.cases.proofs.Cases.{by}
@@ -16,6 +16,17 @@ pub pad-full : (n : ℕ) (l m : List ℕ) → n ≤ length l → pad n (l ++ m) 
 pad-full zero l m h = refl
 pad-full (suc n) [] m h = absurd (not-suc-le-zero h)
 pad-full (suc n) (x ∷ l) m h = rw (pad-full n l m (le-of-suc-le-suc h))
+
+pad-nil : (n : ℕ) → pad n [] ≡ replicate n 0
+pad-nil zero = refl
+pad-nil (suc n) = rw (pad-nil n)
+
+pub pad-behind : (n : ℕ) (l : List ℕ) → length l ≤ n → pad n l ≡ l ++ replicate (n - length l) 0
+pad-behind n [] h = rw sub-zero (pad-nil n)
+pad-behind zero (x ∷ l) h = absurd (not-suc-le-zero h)
+pad-behind (suc n) (x ∷ l) h =
+    let e : suc n - suc (length l) ≡ n - length l = omega arith in
+    rw (pad-behind n l (le-of-suc-le-suc h), e)
 
 pub take-pad : (n : ℕ) (l : List ℕ) → length l ≤ n → take (length l) (pad n l) ≡ l
 take-pad n [] h = refl

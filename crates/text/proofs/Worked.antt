@@ -9,6 +9,9 @@ pub worked : Worked
 unfolding lineOf parsed frameText refusalText
 worked =
     record {
+      letters = refl;
+      numerals = refl;
+      hex-letters = refl;
       session = refl;
       slot = refl;
       sample = refl;

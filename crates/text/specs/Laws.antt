@@ -7,7 +7,7 @@ use lib.ListN.{length, take}
 use Rattle.can.specs.Number.{AreBytes}
 use Rattle.can.specs.declared.Frame.{Frame as Sent}
 use Rattle.text.specs.Ascii.{ascii}
-use Rattle.text.specs.Lines.{lines, longest, lineOf, blank, held, pushed, handed}
+use Rattle.text.specs.Lines.{lines, lineOf, blank, held, pushed, handed}
 use Rattle.text.specs.Grammar.{made, parsed, says, saysLine}
 use Rattle.text.specs.Printed.{frameShown, frameText, noneText, refusalText}
 use Rattle.text.specs.declared.Command.{Command}
@@ -27,7 +27,7 @@ pub record Laws : Type 0 where
   pub handed-lines : (bs : List ℕ) → handed blank bs ≡ map lineOf (lines bs)
   pub push-line : (l : List ℕ) (b : ℕ) → pushed (lineOf l) b ≡ lineOf (l ++ b ∷ [])
   -- lines of at most 64 bytes are kept whole
-  pub held-line : (l : List ℕ) → length l ≤ longest → held (lineOf l) ≡ l
+  pub held-line : (l : List ℕ) → length l ≤ 64 → held (lineOf l) ≡ l
   -- and so is all that is printed
   pub held-frame : (f : Sent) → length (f .bytes) ≡ 8 → held (lineOf (frameText f)) ≡ frameText f
   pub held-none : held (lineOf noneText) ≡ noneText

@@ -17,6 +17,10 @@ abbrev pub sent : ℕ → ℕ → List ℕ → Sent
 sent id len bytes = record { identifier = id; length = len; bytes = pad 8 bytes }
 
 pub record Worked : Type 0 where
+  -- quoted text as bytes, every letter that 01's session has
+  pub letters : ascii "FTS?-E \n" ≡ 0x46 ∷ 0x54 ∷ 0x53 ∷ 0x3F ∷ 0x2D ∷ 0x45 ∷ 0x20 ∷ 0x0A ∷ []
+  pub numerals : ascii "0123456789" ≡ 0x30 ∷ 0x31 ∷ 0x32 ∷ 0x33 ∷ 0x34 ∷ 0x35 ∷ 0x36 ∷ 0x37 ∷ 0x38 ∷ 0x39 ∷ []
+  pub hex-letters : ascii "ABCDEFabcdef" ≡ 0x41 ∷ 0x42 ∷ 0x43 ∷ 0x44 ∷ 0x45 ∷ 0x46 ∷ 0x61 ∷ 0x62 ∷ 0x63 ∷ 0x64 ∷ 0x65 ∷ 0x66 ∷ []
   -- 01's session: its input, its lines, and what they say
   pub session : lines (ascii "?\n?\nS 69637\n?\nF 601 8 40 04 60 00 00 00 00 00\n?\nS -\n?\n?\n")
       ≡ ascii "?" ∷ ascii "?" ∷ ascii "S 69637" ∷ ascii "?" ∷ ascii "F 601 8 40 04 60 00 00 00 00 00" ∷ ascii "?"

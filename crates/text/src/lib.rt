@@ -1,5 +1,8 @@
-//! The session program's text: what a line says, how one is gathered byte by byte, what is printed. No functions.
+//! The session program's text: what a line says, how one is gathered byte by byte, what is printed.
 use can::Bytes;
+ghost use Rattle.text.specs.Forms.{Forms};
+ghost use Rattle.text.specs.Laws.{Laws};
+ghost use Rattle.text.specs.Worked.{Worked};
 
 // Lines of at most 64 bytes.
 pub const LONGEST: usize = 64;
@@ -26,3 +29,8 @@ pub struct Parsed {
     pub command: Command,
     pub bytes: Bytes,
 }
+
+// It does nothing: what it ensures are the statements of the crate, so that the crate is proved only if they are.
+fn statements()
+    ensures { λ _. ⌜ Forms × Laws × Worked ⌝ }
+{}

@@ -1,6 +1,9 @@
+pub mod Kept
 pub mod Valid
 pub mod Short
 pub mod Whole
 pub mod Refusals
+pub mod Deeds
 pub mod Laws
+pub mod Program
 pub mod Worked

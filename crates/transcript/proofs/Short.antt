@@ -13,14 +13,14 @@ use Rattle.parts.specs.declared.Answer.{Answer}
 use Rattle.parts.specs.declared.Sensor.the-variants.{Missing as missing, Raw}
 use Rattle.promises.specs.WaitingLine.{Kind, emergency, sdoReply, heartbeat, tpdo, frameOf}
 use Rattle.promises.specs.Acts.{Act, nothing, enter, reset, boot, idle, send, take, lose, time, sync, serve, frameBy}
-use Rattle.promises.specs.Calls.{slot, meant, received, sampled, slotted, frameIn as frameOr}
+use Rattle.promises.specs.Calls.{receive, sample, slot, meant, slotAnswer, isFrame, frameIn as frameOr}
 use Rattle.text.specs.Lines.{longest, lineOf, held}
 use Rattle.text.specs.Printed.{frameText, refusalText}
 use Rattle.text.specs.declared.Command.{Command}
 use Rattle.text.specs.declared.Command.the-variants.{Malformed, Frame, Ticks, Sample, Missing, Slot}
 use Rattle.text.proofs.Roundtrip.{frame-short}
 use Rattle.text.proofs.Laws.{laws}
-use Rattle.transcript.specs.Commands.{Outcome, told, frameIn, obeyed}
+use Rattle.transcript.specs.Commands.{Outcome, told, frameIn, called, obeyed}
 
 kind-short : (c : Core) (k : Kind) → frameOf c k .length ≤ 8
 kind-short c emergency = omega arith
@@ -54,13 +54,13 @@ told-fits a = by (λ (o : Outcome). length (o .text) ≤ longest) (eqb (a .refus
 
 fits : (h : Head) (bytes : List ℕ) (c : Command) → length (obeyed h bytes c .text) ≤ longest
 fits h bytes Malformed = refusal-fits 9
-fits h bytes (Frame id len) = told-fits (received h (frameIn id len bytes))
+fits h bytes (Frame id len) = told-fits (called h (receive (frameIn id len bytes)))
 fits h bytes (Ticks n) = omega arith
-fits h bytes (Sample r) = told-fits (sampled h (Raw r))
-fits h bytes Missing = told-fits (sampled h missing)
+fits h bytes (Sample r) = told-fits (called h (sample (Raw r)))
+fits h bytes Missing = told-fits (called h (sample missing))
 fits h bytes Slot =
-    by (λ (t : List ℕ). length t ≤ longest) (slotted h .waited)
-    (λ _. frame-fits (slotted h .frame) (sent-short (h .core) (meant h slot)))
+    by (λ (t : List ℕ). length t ≤ longest) (isFrame (slotAnswer h))
+    (λ _. frame-fits (frameOr (slotAnswer h)) (sent-short (h .core) (meant h slot)))
     (λ _. omega arith)
 
 pub held-obeyed : (h : Head) (bytes : List ℕ) (c : Command) → held (lineOf (obeyed h bytes c .text)) ≡ obeyed h bytes c .text

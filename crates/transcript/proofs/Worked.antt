@@ -1,4 +1,4 @@
--- 01's session, from the definitions, by computation.
+-- The sessions of specs/Worked.antt, from the definitions, by computation.
 use mathlib.Core.Path.{refl}
 use Rattle.entries.specs.Table.{entries, table, lookup}
 use Rattle.dictionary.specs.Reads.{shownAt}
@@ -12,4 +12,4 @@ use Rattle.transcript.specs.Worked.{Worked}
 
 pub worked : Worked
 unfolding entries table lookup shownAt written due act settledTo parsed frameText refusalText told
-worked = record { printed = refl; refusals = refl }
+worked = record { printed = refl; time = refl; positions = refl; identity = refl; refusals = refl; malformed = refl }

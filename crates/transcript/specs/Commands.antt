@@ -9,7 +9,7 @@ use Rattle.parts.specs.declared.Head.{Head}
 use Rattle.parts.specs.declared.Answer.{Answer}
 use Rattle.parts.specs.declared.Sent.{Sent}
 use Rattle.parts.specs.declared.Sensor.the-variants.{Missing as missing, Raw}
-use Rattle.promises.specs.Calls.{received, ticked, sampled, slotted}
+use Rattle.promises.specs.Calls.{Call, receive, tick, sample, slot, step, answered, refusalBy, slotAnswer, sentWith}
 use Rattle.text.specs.Printed.{frameText, noneText, refusalText}
 use Rattle.text.specs.declared.Command.{Command}
 use Rattle.text.specs.declared.Command.the-variants.{Malformed, Frame, Ticks, Sample, Missing, Slot}
@@ -44,19 +44,23 @@ frameIn id len bytes = record { identifier = id; extended = false; remote = fals
 
 abbrev pub ticks : ℕ → Head → Head
 ticks zero h = h
-ticks (suc n) h = ticked (ticks n h)
+ticks (suc n) h = step (ticks n h) tick
+
+-- a call that may be refused
+abbrev pub called : Head → Call → Answer
+called h c = answered (refusalBy c) (step h c)
 
 -- The bytes are those of the frame, and of no use to another command.
 abbrev pub obeyed : Head → List ℕ → Command → Outcome
 -- 9: a line not of its form: prints E 9; head unchanged
 obeyed h bytes Malformed = refused 9 h
 -- `F id len bytes`
-obeyed h bytes (Frame id len) = told (received h (frameIn id len bytes))
+obeyed h bytes (Frame id len) = told (called h (receive (frameIn id len bytes)))
 -- `T n`
 obeyed h bytes (Ticks n) = silent (ticks n h)
 -- `S r`; r may be any number: above 1,048,575 it is refused
-obeyed h bytes (Sample r) = told (sampled h (Raw r))
+obeyed h bytes (Sample r) = told (called h (sample (Raw r)))
 -- or `S -`
-obeyed h bytes Missing = told (sampled h missing)
+obeyed h bytes Missing = told (called h (sample missing))
 -- `?` (slot)
-obeyed h bytes Slot = shown (slotted h)
+obeyed h bytes Slot = shown (sentWith (slotAnswer h) (step h slot))

@@ -1,6 +1,10 @@
-//! The session: what a line does to the head and prints, and the whole, from the input's bytes to those printed. No functions.
+//! The session: what a line does to the head and prints, and the whole, from the input's bytes to those printed.
 use parts::Head;
 use text::Line;
+ghost use Rattle.transcript.specs.Deeds.{Deeds};
+ghost use Rattle.transcript.specs.Laws.{Laws};
+ghost use Rattle.transcript.specs.Program.{Program};
+ghost use Rattle.transcript.specs.Worked.{Worked};
 
 // The head that a line leaves, and what the line prints.
 pub struct Reply {
@@ -25,3 +29,8 @@ pub struct Done {
     pub session: Session,
     pub len: usize,
 }
+
+// It does nothing: what it ensures are the statements of the crate, so that the crate is proved only if they are.
+fn statements()
+    ensures { λ _. ⌜ Deeds × Laws × Program × Worked ⌝ }
+{}

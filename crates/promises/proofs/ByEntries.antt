@@ -1,0 +1,152 @@
+-- `ByEntries` of specs/ByEntries.antt.
+use Prim.Native.Nat.{ℕ, zero, suc, _-_, _≤_, _<_, zero-le}
+use native.Mathlib.Nat.{add-zero, sub-zero}
+use native.Mathlib.Omega.{arith}
+use lib.Dec.{ltb}
+use lib.IntN.{ℤ, pos, negsuc, _+ℤ_, _-ℤ_, natAbs}
+use mathlib.Core.Path.{_≡_, refl, sym, ap, _∙_}
+use mathlib.Core.Bool.{Bool, true}
+use mathlib.Core.Option.{Option, some}
+use borrow.Author.Tests.{lt-ltb, le-ltb, ltb-true}
+use Rattle.cases.proofs.Cases.{test}
+use Rattle.can.specs.declared.Received.{Received}
+use Rattle.can.specs.Signed.{twos}
+use Rattle.position.specs.declared.Profile.{Profile}
+use Rattle.position.specs.Position as formula
+use Rattle.position.specs.Profile.{ValidProfile}
+use Rattle.position.proofs.Whole.{minus-sum}
+use Rattle.position.proofs.Laws.{laws as position-laws}
+use Rattle.entries.specs.declared.Device.{Device}
+use Rattle.entries.specs.declared.Reading.{Reading}
+use Rattle.entries.specs.declared.table.Found.{Found}
+use Rattle.entries.specs.declared.table.Found.the-variants.{At, NoSubIndex, NoIndex}
+use Rattle.entries.specs.Table.{keyOf, lookup, rowAt, width}
+use Rattle.entries.specs.Laws.{Stands}
+use Rattle.entries.proofs.Laws.{laws as entries-laws}
+use Rattle.dictionary.specs.declared.read.Shown.{Shown}
+use Rattle.dictionary.specs.declared.read.Shown.the-variants.{Number}
+use Rattle.dictionary.specs.Reads.{readOf}
+use Rattle.dictionary.specs.Effects.{effects, anew}
+use Rattle.sdo.specs.Request.{indexOf, subOf, reading}
+use Rattle.parts.specs.declared.Head.{Head}
+use Rattle.parts.specs.declared.Sensor.{Sensor}
+use Rattle.promises.specs.States.{operational, isIn}
+use Rattle.promises.specs.Calls.{receive, step}
+use Rattle.promises.specs.Meant.{dueTo, Writes}
+use Rattle.promises.specs.Histories.{after, powered, Reachable}
+use Rattle.promises.specs.Readings.{readsIn, profileOf, shownPosition, readingOf, dueShown}
+use Rattle.promises.specs.ByEntries.{Scale, ReadsScale, directedBy, positionBy, offsetBy, ByEntries}
+use Rattle.promises.specs.Parameters.{Reads}
+use Rattle.promises.proofs.Histories.{valid-powered, valid-after}
+use Rattle.promises.proofs.Readings.{read-due, tells}
+use Rattle.promises.proofs.Effects.{served-rightly}
+use Rattle.promises.proofs.Parameters.{parameters-read}
+
+in-some : {a b : Shown} → some a ≡ some b → a ≡ b
+in-some q = cc
+
+in-number : {a b : ℕ} → Number a ≡ Number b → a ≡ b
+in-number q = cc
+
+-- what is read at the place that is found
+asked : (h : Head) (f : Received) (s : Shown) → let i = indexOf (f .bytes) in let j = subOf (f .bytes) in
+    reading (f .bytes) ≡ true → readsIn h i j ≡ some s → (p : ℕ) × Stands p i j × (dueTo h f ≡ dueShown (width (rowAt p)) s)
+asked h f s r = found (lookup i j) refl
+  where
+    d : Device
+    d = h .core .device
+
+    o : Bool
+    o = isIn operational (h .core)
+
+    i : ℕ
+    i = indexOf (f .bytes)
+
+    j : ℕ
+    j = subOf (f .bytes)
+
+    found : (x : Found) → lookup i j ≡ x → readOf d o x ≡ some s
+        → (p : ℕ) × Stands p i j × (dueTo h f ≡ dueShown (width (rowAt p)) s)
+    found (At p) q e = (p, entries-laws .finds i j .at p .0 q, read-due d o (f .bytes) p r q ∙ ap (dueShown (width (rowAt p))) (in-some e))
+    found NoSubIndex q e = absurd (let z : _≡_ {A = ℕ} 0 1 = cc in omega arith)
+    found NoIndex q e = absurd (let z : _≡_ {A = ℕ} 0 1 = cc in omega arith)
+
+-- an entry reads one number
+same : (x : Option Shown) {a b : ℕ} → x ≡ some (Number a) → x ≡ some (Number b) → a ≡ b
+same x y z = in-number (in-some (sym y ∙ z))
+
+-- what these entries read of a profile
+abbrev scaleOf : Profile → Scale
+scaleOf p = record { operating = p .operating; range = p .range; step = p .step; offset = twos (p .offset) }
+
+scale-is : (h : Head) (x : Scale) → ReadsScale h x → x ≡ scaleOf (profileOf h)
+scale-is h x e =
+    let n = parameters-read h in
+    let a = same (readsIn h 0x6000 0) (e .operating) (n .operating) in
+    let b = same (readsIn h 0x6002 0) (e .range) (n .range) in
+    let c = same (readsIn h 0x6005 1) (e .step) (n .step) in
+    let d = same (readsIn h 0x6509 0) (e .offset) (n .offset) in
+    ap (λ m. record { operating = m; range = x .range; step = x .step; offset = x .offset }) a
+    ∙ ap (λ m. record { operating = profileOf h .operating; range = m; step = x .step; offset = x .offset }) b
+    ∙ ap (λ m. record { operating = profileOf h .operating; range = profileOf h .range; step = m; offset = x .offset }) c
+    ∙ ap (λ m. record { operating = profileOf h .operating; range = profileOf h .range; step = profileOf h .step; offset = m }) d
+
+-- the position, by the sign of the offset
+module _ (p : Profile) (v : ValidProfile p) (r : ℕ) where
+  by-sign : (z : ℤ) → natAbs z < p .range
+      → positionBy (record { operating = p .operating; range = p .range; step = p .step; offset = twos z }) r
+      ≡ formula.modℤ (pos (formula.directed p r) +ℤ z) (p .range)
+  by-sign (pos n) l = rw (lt-ltb n 0x80000000 (omega (arith, l, v .high)))
+  by-sign (negsuc n) l =
+      let high : 0x80000000 ≤ 0xFFFFFFFF - n = omega (arith, l, v .high) in
+      let back : 0x100000000 - (0xFFFFFFFF - n) ≡ suc n = omega (arith, l, v .high) in
+      rw (le-ltb (0xFFFFFFFF - n) 0x80000000 high, back) (minus-sum (negsuc n) (formula.directed p r) (p .range) refl l)
+
+  position-by : positionBy (scaleOf p) r ≡ formula.position p r
+  position-by = by-sign (p .offset) (v .offset)
+
+-- v − d, as 6509h reads it
+offset-by : (v d : ℕ) → d ≤ 0x100000000 → twos (pos v -ℤ pos d) ≡ offsetBy v d
+offset-by v zero l = rw (le-ltb v 0 zero-le, add-zero v, sub-zero v)
+offset-by v (suc d) l =
+    test (ltb v (suc d)) (λ e. let u = ltb-true v (suc d) e in rw e (omega (arith, u, l))) (λ e. rw e)
+
+module _ (h : Head) (x : Reachable h) (f : Received) (k v : ℕ) (w : Writes h f k v) where
+  abbrev Anew : ℕ → ℕ → ℕ → Type 0
+  Anew i j n =
+      readsIn (step h (receive f)) i j ≡ anew (effects (h .core .device) (isIn operational (h .core)) k v) (keyOf i j) (some (Number n))
+
+  -- what the entry i-j, which read n, reads after the write
+  written : (i j : ℕ) {n : ℕ} → Reads h i j n → Anew i j n
+  written i j e =
+      served-rightly h x f (w .requests) .accepted k v (w .accepted) .entries i j
+      ∙ ap (anew (effects (h .core .device) (isIn operational (h .core)) k v) (keyOf i j)) e
+
+  both-written : Anew 0x6003 0 (profileOf h .preset) × Anew 0x6509 0 (twos (profileOf h .offset))
+  both-written = (written 0x6003 0 (parameters-read h .preset), written 0x6509 0 (parameters-read h .offset))
+
+pub by-entries : ByEntries
+by-entries =
+    record {
+      asked = asked;
+      position = λ p cs x e r s.
+          let h = after (powered p) cs in
+          let v = valid-after (powered p) cs (valid-powered p) in
+          tells p cs .position
+          ∙ ap (λ (t : Sensor). some (shownPosition (profileOf h) t)) s
+          ∙ ap (λ n. some (Number n)) (sym (position-by (profileOf h) (v .device .settings .profile) r))
+          ∙ ap (λ (y : Scale). some (Number (positionBy y r))) (sym (scale-is h x e));
+      presets = λ p cs x e r s f v w.
+          let h = after (powered p) cs in
+          let valid = valid-after (powered p) cs (valid-powered p) in
+          let q = profileOf h in
+          let raw = h .core .device .reading .raw in
+          let its-raw : raw ≡ r = ap (λ (t : Reading). t .raw) (tells p cs .reading-is ∙ ap readingOf s) in
+          let below = position-laws .positions q raw (valid .device .settings .profile) .directed-below in
+          written h (record { start = p; calls = cs; so = refl }) f 0x6003_00 v w 0x6509 0 (parameters-read h .offset)
+          ∙ ap (λ n. some (Number n)) (offset-by v (formula.directed q raw) (omega (arith, below, valid .device .settings .profile .high)))
+          ∙ ap (λ n. some (Number (offsetBy v (formula.directed q n)))) its-raw
+          ∙ ap (λ (y : Scale). some (Number (offsetBy v (directedBy y r)))) (sym (scale-is h x e));
+      rescales = λ h x f v. (both-written h x f 0x6000_00 v, (both-written h x f 0x6002_00 v, (both-written h x f 0x6005_01 v, tt)));
+      ranges = λ h x f v w. written h x f 0x6000_00 v w 0x6002 0 (parameters-read h .range);
+    }

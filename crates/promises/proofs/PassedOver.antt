@@ -1,0 +1,143 @@
+-- `PassedOver` of specs/PassedOver.antt.
+use Prim.Native.Nat.{ℕ, suc, _%_}
+use native.Mathlib.Omega.{arith}
+use native.Mathlib.Nat.{suc-mod, zero-mod}
+use mathlib.Core.Path.{_≡_, refl, sym, ap, _∙_}
+use mathlib.Core.Logic.{_↔_, ⊎-elim}
+use mathlib.Core.Bool.{Bool, true, false}
+use mathlib.Core.List.{List, [], _∷_, _++_}
+use Rattle.cases.proofs.Cases.{by, by₂, test, true-false}
+use Rattle.entries.specs.declared.Pdo.{Pdo}
+use Rattle.entries.specs.declared.Reading.{Reading}
+use Rattle.parts.specs.declared.Head.{Head}
+use Rattle.parts.specs.declared.Sensor.{Sensor}
+use Rattle.parts.specs.declared.Sensor.the-variants.{Missing, Raw}
+use Rattle.promises.specs.States.{good, PdoNumber}
+use Rattle.promises.specs.WaitingLine.{tpdo}
+use Rattle.promises.specs.Calls.{Call, receive, tick, step}
+use Rattle.promises.specs.Valid.{waits, Valid}
+use Rattle.promises.specs.Histories.{after, PowerUp, powered}
+use Rattle.promises.specs.Readings.{lastSample, readingOf}
+use Rattle.promises.specs.Gap.{isGoodSample}
+use Rattle.promises.specs.Moments.{countBy, since, pdoOf, Ready, OnEvents, OnSyncs, EachOf, Begins, Counts, countsAfter, Moments}
+use Rattle.promises.specs.Moments.{ticksAnew, tickCounts, syncsAnew, synchronises}
+use Rattle.promises.specs.Moments as moments
+use Rattle.promises.specs.PassedOver.{Due, enters, elapses, syncs, PassedOver}
+use Rattle.promises.proofs.Valid.{valid-step}
+use Rattle.promises.proofs.Conditions.{shows}
+use Rattle.promises.proofs.Histories.{valid-after, valid-powered}
+use Rattle.promises.proofs.Readings.{tells, stays-missing}
+use Rattle.promises.proofs.Tested.{is-entry, is-sync}
+use Rattle.promises.proofs.Moments.{moments-so}
+
+pub since-append : (anew counts : Head → Call → Bool) (xs : List Call) (h : Head) (ys : List Call) (n : ℕ)
+    → since anew counts h (xs ++ ys) n ≡ since anew counts (after h xs) ys (since anew counts h xs n)
+since-append anew counts [] h ys n = refl
+since-append anew counts (x ∷ xs) h ys n = since-append anew counts xs (step h x) ys (countBy anew counts h x n)
+
+-- two counts of which the period leaves the same
+module _ (period : ℕ) where
+  abbrev Like : ℕ → ℕ → Type 0
+  Like m n = m % period ≡ n % period
+
+  like-next : (m n : ℕ) → Like m n → Like (suc m) (suc n)
+  like-next m n e = suc-mod m period ∙ ap (λ x. suc x % period) e ∙ sym (suc-mod n period)
+
+  falls : (m n : ℕ) → Like m n → EachOf period m → EachOf period n
+  falls m n e x = record { some = x .some; turn = sym (like-next m n e) ∙ x .turn }
+
+  like-falls : (m n : ℕ) → Like m n → EachOf period m ↔ EachOf period n
+  like-falls m n e = (falls m n e, falls n m (sym e))
+
+  module _ (anew counts : Head → Call → Bool) where
+    like-since : (cs : List Call) (h : Head) (m n : ℕ) → Like m n → Like (since anew counts h cs m) (since anew counts h cs n)
+    like-since [] h m n e = e
+    like-since (x ∷ cs) h m n e =
+        like-since cs (step h x) _ _
+        (by₂ Like (anew h x) (λ _. refl) (λ _. by₂ Like (counts h x) (λ _. like-next m n e) (λ _. e)))
+
+    -- a call by which the count comes to a multiple, or begins anew
+    like-anew : (h : Head) (x : Call) (n : ℕ) → counts h x ≡ true → EachOf period n → Like (countBy anew counts h x n) 0
+    like-anew h x n c e =
+        by (λ m. Like m 0) (anew h x) (λ _. refl) (λ _. rw c (e .turn ∙ sym (zero-mod period)))
+
+    counted-on : (xs : List Call) (h : Head) (x : Call) (ds : List Call) (n : ℕ)
+        → Like (countBy anew counts (after h xs) x (since anew counts h xs n)) 0
+        → EachOf period (since anew counts h (xs ++ x ∷ ds) n) ↔ EachOf period (since anew counts (step (after h xs) x) ds 0)
+    counted-on xs h x ds n e =
+        rw (since-append anew counts xs h (x ∷ ds) n) (like-falls _ _ (like-since ds (step (after h xs) x) _ 0 e))
+
+-- types 254 and 255 are none of 1..240
+no-both : {A : Type 0} (p : Pdo) → OnEvents p → OnSyncs p → A
+no-both p e s = absurd (⊎-elim (λ (t : p .transmission ≡ 254). omega (arith, t, s .1)) (λ (t : p .transmission ≡ 255). omega (arith, t, s .1)) e)
+
+a-sample : (s : Sensor) → readingOf s .good ≡ true → (r : ℕ) × (s ≡ Raw r)
+a-sample Missing e = true-false (sym e)
+a-sample (Raw r) e = (r, refl)
+
+module _ (p : PowerUp) (cs : List Call) where
+  abbrev h : Head
+  h = after (powered p) cs
+
+  abbrev n : Counts
+  n = countsAfter p cs
+
+  v : Valid h
+  v = valid-after (powered p) cs (valid-powered p)
+
+  is-good : good (h .core) ≡ readingOf (lastSample Missing cs) .good
+  is-good = ap (λ (r : Reading). r .good) (tells p cs .reading-is)
+
+  -- a due moment is no sample
+  still-missing : {c : Call} {w : PdoNumber} → Due h n c w → isGoodSample c ≡ false
+  still-missing (enters m o t) = refl
+  still-missing (elapses o t e) = refl
+  still-missing (syncs s t e) = refl
+
+  passes : (c : Call) (w : PdoNumber) → Due h n c w → lastSample Missing cs ≡ Missing → waits (step h c) (tpdo w) ≡ false
+  passes c w d e =
+      test (waits (step h c) (tpdo w))
+      (λ y. true-false (sym (shows (step h c .core) w (valid-step h c v .only (tpdo w) y) .is-good)
+      ∙ stays-missing h v c (still-missing d) (is-good ∙ ap (λ s. readingOf s .good) e)))
+      (λ y. y)
+
+  begins : {c : Call} {w : PdoNumber} → Due h n c w → Ready h w → Begins h n c (tpdo w)
+  begins (enters m o t) r = moments.enters m o r t
+  begins (elapses o t e) r = moments.elapses o r t e
+  begins (syncs s t e) r = moments.syncs s r t e
+
+  due : {c : Call} {w : PdoNumber} → Begins h n c (tpdo w) → Due h n c w × Ready h w
+  due (moments.enters m o r t) = (enters m o t, r)
+  due (moments.elapses o r t e) = (elapses o t e, r)
+  due (moments.syncs s r t e) = (syncs s t e, r)
+
+  abbrev TicksOn : Call → PdoNumber → Type 0
+  TicksOn c w = Like (pdoOf h w .event) (countBy (ticksAnew w) tickCounts h c (n .ticks w)) 0
+
+  ticks-on : {c : Call} {w : PdoNumber} → Due h n c w → OnEvents (pdoOf h w) → TicksOn c w
+  ticks-on (enters {f} m o t) e = rw (is-entry h f .1 (m, o))
+  ticks-on {c} {w} (elapses o t e) _ = like-anew (pdoOf h w .event) (ticksAnew w) tickCounts h tick (n .ticks w) o e
+  ticks-on {c} {w} (syncs s t e) x = no-both (pdoOf h w) x t
+
+  abbrev SyncsOn : Call → PdoNumber → Type 0
+  SyncsOn c w = Like (pdoOf h w .transmission) (countBy (syncsAnew w) synchronises h c (n .syncs w)) 0
+
+  syncs-on : {c : Call} {w : PdoNumber} → Due h n c w → OnSyncs (pdoOf h w) → SyncsOn c w
+  syncs-on {c} {w} (enters m o t) x = no-both (pdoOf h w) t x
+  syncs-on {c} {w} (elapses o t e) x = no-both (pdoOf h w) t x
+  syncs-on {c} {w} (syncs {f} s t e) _ =
+      like-anew (pdoOf h w .transmission) (syncsAnew w) synchronises h (receive f) (n .syncs w) (is-sync h f .1 s) e
+
+  pub passed-over : PassedOver p cs
+  passed-over =
+      let m : Moments p cs = moments-so p cs in
+      record {
+        passes = passes;
+        joins = λ c w r d e o.
+            m .joins c (tpdo w) (begins d (record { is-on = o; is-good = is-good ∙ ap (λ s. readingOf s .good) e }));
+        not-later = λ c w x y.
+            let d = due (m .only-then c (tpdo w) x y) in
+            (d .0, a-sample (lastSample Missing cs) (sym is-good ∙ d .1 .is-good));
+        ticks-on = λ c w d e ds. counted-on (pdoOf h w .event) (ticksAnew w) tickCounts cs (powered p) c ds 0 (ticks-on d e);
+        syncs-on = λ c w d e ds. counted-on (pdoOf h w .transmission) (syncsAnew w) synchronises cs (powered p) c ds 0 (syncs-on d e);
+      }

@@ -1,0 +1,71 @@
+-- A head by what its entries read: the position, and what an accepted write makes of 6000h to 6509h, follow from them in plain numbers.
+-- 01's chapters "Entries" and "Position".
+use Prim.Native.Nat.{ℕ, _+_, _-_, _*_, _/_, _%_}
+use lib.Dec.{eqb, ltb}
+use mathlib.Core.Path.{_≡_}
+use mathlib.Core.Bool.{true, cond}
+use mathlib.Core.List.{List, [], _∷_}
+use mathlib.Core.Option.{some}
+use Rattle.can.specs.declared.Received.{Received}
+use Rattle.entries.specs.Table.{rowAt, width}
+use Rattle.entries.specs.Laws.{Stands}
+use Rattle.dictionary.specs.declared.read.Shown.{Shown}
+use Rattle.sdo.specs.Request.{indexOf, subOf, reading}
+use Rattle.parts.specs.declared.Head.{Head}
+use Rattle.parts.specs.declared.Sensor.the-variants.{Missing, Raw}
+use Rattle.promises.specs.Calls.{Call, receive, step}
+use Rattle.promises.specs.Meant.{dueTo, Writes}
+use Rattle.promises.specs.Histories.{after, PowerUp, powered, Reachable}
+use Rattle.promises.specs.Readings.{readsIn, lastSample, dueShown}
+use Rattle.promises.specs.Codes.{All}
+use Rattle.promises.specs.Parameters.{Reads}
+
+-- What 6000-0, 6002-0, 6005-1 and 6509-0 read.
+pub record Scale : Type 0 where
+  pub operating : ℕ
+  pub range : ℕ
+  pub step : ℕ
+  pub offset : ℕ
+
+pub record ReadsScale (h : Head) (x : Scale) : Type 0 where
+  pub operating : Reads h 0x6000 0 (x .operating)
+  pub range : Reads h 0x6002 0 (x .range)
+  pub step : Reads h 0x6005 1 (x .step)
+  pub offset : Reads h 0x6509 0 (x .offset)
+
+-- Raw r counts 5,000 nm steps. Scaling (6000h bit 2) off: s = r; on: s = r × 5,000 divided by 6005h, rounded down.
+abbrev pub scaledBy : Scale → ℕ → ℕ
+scaledBy x r = cond (eqb (x .operating / 4 % 2) 1) (r * 5000 / x .step) r
+
+-- T is 6002h. c = s mod T. Direction (bit 3 ..) 0: d = c; 1: d = T − 1 − c.
+abbrev pub directedBy : Scale → ℕ → ℕ
+directedBy x r = let c = scaledBy x r % x .range in cond (eqb (x .operating / 8 % 2) 1) (x .range - 1 - c) c
+
+-- Position = (d + offset) mod T, never negative. 6509h is signed: from 8000 0000h on it is 2^32 less.
+abbrev pub positionBy : Scale → ℕ → ℕ
+positionBy x r =
+    let d = directedBy x r in
+    cond (ltb (x .offset) 0x80000000) ((d + x .offset) % x .range) ((d + (x .range - (0x100000000 - x .offset))) % x .range)
+
+-- p − d, as 6509h reads it
+abbrev pub offsetBy : ℕ → ℕ → ℕ
+offsetBy p d = cond (ltb p d) (0x100000000 - (d - p)) (p - d)
+
+pub record ByEntries : Type 0 where
+  -- A read gets what the entry reads, in its bytes; 7. of a blank 0800 0024h.
+  pub asked : (h : Head) (f : Received) (s : Shown) → let i = indexOf (f .bytes) in let j = subOf (f .bytes) in
+      reading (f .bytes) ≡ true → readsIn h i j ≡ some s → (p : ℕ) × Stands p i j × (dueTo h f ≡ dueShown (width (rowAt p)) s)
+  -- 6004-0 is the position, by the other entries and the last sample
+  pub position : (p : PowerUp) (cs : List Call) → let h = after (powered p) cs in (x : Scale) → ReadsScale h x → (r : ℕ)
+      → lastSample Missing cs ≡ Raw r → Reads h 0x6004 0 (positionBy x r)
+  -- Accepted 6003h = p: offset becomes p − d at the present sample.
+  pub presets : (p : PowerUp) (cs : List Call) → let h = after (powered p) cs in (x : Scale) → ReadsScale h x → (r : ℕ)
+      → lastSample Missing cs ≡ Raw r → (f : Received) (v : ℕ) → Writes h f 0x6003_00 v
+      → Reads (step h (receive f)) 0x6509 0 (offsetBy v (directedBy x r))
+  -- Any accepted write of 6000h, 6002h or 6005h, also of an equal value, sets 6003h and the offset to 0;
+  pub rescales : (h : Head) → Reachable h → (f : Received) (v : ℕ)
+      → All (λ k. Writes h f k v → Reads (step h (receive f)) 0x6003 0 0 × Reads (step h (receive f)) 0x6509 0 0)
+      (0x6000_00 ∷ 0x6002_00 ∷ 0x6005_01 ∷ [])
+  -- of 6000h also T, to 1,000,000 with scaling and 1,048,576 without.
+  pub ranges : (h : Head) → Reachable h → (f : Received) (v : ℕ) → Writes h f 0x6000_00 v
+      → Reads (step h (receive f)) 0x6002 0 (cond (eqb (v / 4 % 2) 1) 1000000 1048576)

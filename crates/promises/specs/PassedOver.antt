@@ -1,0 +1,51 @@
+-- "A due moment with a missing reading is passed over": no frame joins at it, nor later for it, and its count goes on as if one had
+-- joined. Of every list of calls from power-up, counted by the calls as in specs/Moments.antt. 01's chapter "The waiting line".
+use Prim.Native.Nat.{ℕ}
+use mathlib.Core.Path.{_≡_}
+use mathlib.Core.Logic.{_↔_}
+use mathlib.Core.Bool.{true, false}
+use mathlib.Core.List.{List, _∷_, _++_}
+use Rattle.can.specs.declared.Received.{Received}
+use Rattle.dictionary.specs.Accepted.{on}
+use Rattle.parts.specs.declared.Head.{Head}
+use Rattle.parts.specs.declared.Sensor.the-variants.{Missing, Raw}
+use Rattle.promises.specs.States.{operational, isIn, PdoNumber, toEnter}
+use Rattle.promises.specs.WaitingLine.{tpdo}
+use Rattle.promises.specs.Calls.{Call, receive, tick, step}
+use Rattle.promises.specs.Valid.{waits}
+use Rattle.promises.specs.Meant.{Commands, Synchronises}
+use Rattle.promises.specs.Histories.{after, PowerUp, powered}
+use Rattle.promises.specs.Readings.{lastSample}
+use Rattle.promises.specs.Moments.{since, pdoOf, OnEvents, OnSyncs, EachOf, Counts, countsAfter}
+use Rattle.promises.specs.Moments.{ticksAnew, tickCounts, syncsAnew, synchronises}
+
+-- A PDO's due moments, whatever the reading; n was counted before the call.
+pub data Due (h : Head) (n : Counts) : Call → PdoNumber → Type 0 where
+  -- Types 254 and 255: on entering Operational,
+  enters : {f : Received} {w : PdoNumber} → Commands h f (toEnter operational) → isIn operational (h .core) ≡ false → OnEvents (pdoOf h w)
+      → Due h n (receive f) w
+  -- and every E ticks (sub 5 = E > 0)
+  elapses : {w : PdoNumber} → isIn operational (h .core) ≡ true → OnEvents (pdoOf h w) → EachOf (pdoOf h w .event) (n .ticks w)
+      → Due h n tick w
+  -- Types 1..240: at each n-th SYNC
+  syncs : {f : Received} {w : PdoNumber} → Synchronises h f → OnSyncs (pdoOf h w) → EachOf (pdoOf h w .transmission) (n .syncs w)
+      → Due h n (receive f) w
+
+pub record PassedOver (p : PowerUp) (cs : List Call) : Type 0 where
+  -- With a missing reading it is passed over: the PDO does not wait after the call.
+  pub passes : let h = after (powered p) cs in (c : Call) (w : PdoNumber) → Due h (countsAfter p cs) c w → lastSample Missing cs ≡ Missing
+      → waits (step h c) (tpdo w) ≡ false
+  -- With a good one, and switched on, the PDO joins.
+  pub joins : let h = after (powered p) cs in (c : Call) (w : PdoNumber) (r : ℕ) → Due h (countsAfter p cs) c w
+      → lastSample Missing cs ≡ Raw r → on (pdoOf h w .identifier) ≡ true → waits (step h c) (tpdo w) ≡ true
+  -- No frame joins later for a moment passed over: a PDO begins to wait at a due moment, with a good reading.
+  pub not-later : let h = after (powered p) cs in (c : Call) (w : PdoNumber) → waits h (tpdo w) ≡ false → waits (step h c) (tpdo w) ≡ true
+      → Due h (countsAfter p cs) c w × ((r : ℕ) × (lastSample Missing cs ≡ Raw r))
+  -- The next is E ticks later, at the n-th SYNC after it, whether a frame joined or not: whatever calls ds
+  -- follow, ticks and SYNCs fall due exactly where they do if they are counted from the due moment.
+  pub ticks-on : let h = after (powered p) cs in (c : Call) (w : PdoNumber) → Due h (countsAfter p cs) c w → OnEvents (pdoOf h w)
+      → (ds : List Call) → let period = pdoOf h w .event in
+      EachOf period (countsAfter p (cs ++ c ∷ ds) .ticks w) ↔ EachOf period (since (ticksAnew w) tickCounts (step h c) ds 0)
+  pub syncs-on : let h = after (powered p) cs in (c : Call) (w : PdoNumber) → Due h (countsAfter p cs) c w → OnSyncs (pdoOf h w)
+      → (ds : List Call) → let period = pdoOf h w .transmission in
+      EachOf period (countsAfter p (cs ++ c ∷ ds) .syncs w) ↔ EachOf period (since (syncsAnew w) synchronises (step h c) ds 0)
