@@ -3,7 +3,6 @@ use lib.Dec.{eqb}
 use borrow.Author.Tests.{eqb-true}
 use Rattle.cases.proofs.Cases.{by}
 use Rattle.parts.specs.declared.Head.{Head}
-use Rattle.parts.specs.declared.Sent.{Sent}
 use Rattle.promises.specs.States.{node}
 use Rattle.promises.specs.Valid.{Valid}
 use Rattle.promises.specs.Promised.{Slots}

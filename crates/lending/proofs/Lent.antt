@@ -18,7 +18,7 @@ use prog.Routine.{Routine, Env as Routines}
 use prog.Wp.{Heap, Env, Calls, Loops, Tables, WpFn, Closed}
 use ghost.Atoms.{Atoms, sem}
 use contract.Running.{GhostRules, Running, givenOf, tables, tablesOf}
-use types.Kit.{Given, Item, Goal, ‵, raw, _⊛_, ⋆, Step, step, atRet, passes, _$_, _∵_, !, qed, by, move, keep, drop, use0, use1, split}
+use types.Kit.{Given, Item, Goal, ‵, _⊛_, ⋆, Step, step, atRet, passes, _$_, _∵_, !, qed, by, move, keep, drop, use0, use1, split}
 use types.Kit.{join, rewrite, fsplit, fsplit3, fjoin, fjoin3, feqI, suffices, frame, done}
 use types.Run.{Rv, Reads, look, init, forget, stop as stops, from, of-opd, unit-lit, assigns, returns, enter, alloc1, alloc0, params1}
 use types.Run.{pass1, pass0, free1, free0}
@@ -34,7 +34,7 @@ use denote.Steps.{opens, closes, owned, peeks, nothing}
 use denote.Struct.Steps.{spelt}
 use denote.Triple.Entry.{onEntry}
 use denote.Triple.Spec.{tripleOf}
-use denote.Triple.Statement.{Contract, Triple}
+use denote.Triple.Statement.{Triple}
 use denote.Triple.Clauses.{Ended, Clauses, closing}
 use denote.Triple.End.{Fins, all}
 use denote.Triple.Table.{entered, cited}
@@ -44,9 +44,8 @@ use denote.Exit.{yes}
 use Rattle.lending.proofs.Rows.{Row, unit-row, fits, stays, silent}
 use Rattle.lending.proofs.Clauses.{Clause, All, clause, beside, with-all}
 use Rattle.lending.proofs.Locals.{Tree, one, both, past, locals, Blocks, env, Rooms, Lie, later, beyond, lie, alloc-all, free-all}
-use Rattle.lending.proofs.Locals.{found}
 use Rattle.lending.proofs.Known.{Entry, entry, tree, Values, Numbers, from-on, Are, Cells, Stand, stand, forgets, Local}
-use Rattle.lending.proofs.Handed.{seen, copied, reading, operands}
+use Rattle.lending.proofs.Handed.{seen, copied}
 use Rattle.lending.proofs.Body.{Call, Block, Ways, stop, store, calls, match, otherwise, way, lets, temps, code, Shows}
 use Rattle.lending.proofs.Walk.{Called, Known, KnownWays, cell, calling, begins, walk}
 

@@ -1,13 +1,12 @@
 -- What a command orders, by the tests that the code makes.
 use Prim.Native.Nat.{ℕ}
 use lib.Dec.{eqb}
-use mathlib.Core.Path.{_≡_, refl}
+use mathlib.Core.Path.{_≡_}
 use mathlib.Core.Bool.{Bool, true, false, _&&_, _||_}
 use Rattle.cases.proofs.Cases.{test}
 use Rattle.can.specs.declared.Received.{Received}
 use Rattle.parts.specs.declared.Nmt.{Nmt}
 use Rattle.promises.specs.States.{initialising, command, resetCommand, byteOf, commandOf}
-use Rattle.nmt.specs.declared.Order.{Order}
 use Rattle.nmt.specs.Orders.{noOrder, orderOf}
 
 pub resets : (s : Nmt) (b : ℕ)

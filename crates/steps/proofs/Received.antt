@@ -28,7 +28,7 @@ use Rattle.steps.specs.Hear.{replyingBy, heardBy}
 use Rattle.steps.specs.Obey.{repliedIn, syncedIn, configuredIn, scaledIn, enteredIn, restartedIn, savedIn, emptiedIn, obeyedIn}
 use Rattle.steps.proofs.Heard.{Means, passes, syncs, enters, resets, replies, writes, means}
 
-refusal-so : {h : Head} {n : ℕ} {w : Heard} {a : Act} → Means h n w a → w .refusal ≡ n
+pub refusal-so : {h : Head} {n : ℕ} {w : Heard} {a : Act} → Means h n w a → w .refusal ≡ n
 refusal-so (passes n) = refl
 refusal-so syncs = refl
 refusal-so (enters g e) = refl
@@ -92,7 +92,7 @@ module _ (h : Head) (v : Valid h) where
         let q = p ∙ obeyed in
         (ap₂ answered (refusal-so (means h f)) q, subst Valid (sym q) (valid-step h (receive f) v))
 
-    goes : (n : ℕ) → w .way ≡ n → Receives h f (answered (w .refusal) (obeyedIn h w n))
+    pub goes : (n : ℕ) → w .way ≡ n → Receives h f (answered (w .refusal) (obeyedIn h w n))
     goes n e = leaves (ap (obeyedIn h w) (sym e))
 
     -- what `steps::hear::hear`, and the steps of a write, ask for

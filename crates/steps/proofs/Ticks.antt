@@ -17,7 +17,7 @@ use Rattle.promises.specs.States.{operational, isIn, isInitialising, communicat
 use Rattle.promises.specs.WaitingLine.{Kind, emergency, sdoReply, heartbeat, tpdo, kinds, number, thoseOf, those, mayJoin}
 use Rattle.promises.specs.Timers.{ifRunning, timersTicked}
 use Rattle.promises.specs.Acts.{time, acted, timeMoments, goes, comes, settledTo, act}
-use Rattle.promises.specs.Calls.{tick, timed, ticked}
+use Rattle.promises.specs.Calls.{tick, timed, step}
 use Rattle.promises.specs.Valid.{Valid}
 use Rattle.promises.specs.Promised.{Ticks}
 use Rattle.promises.proofs.Nothing.{act-nothing}
@@ -84,7 +84,7 @@ module _ (h : Head) (v : Valid h) where
       (clock-runs o (communication c .pdo1) (c .timers .pdo1))
       (clock-runs o (communication c .pdo2) (c .timers .pdo2))
 
-  joins : isInitialising c ≡ false → settled counted ≡ ticked h
+  joins : isInitialising c ≡ false → settled counted ≡ step h tick
   unfolding act settledTo
   joins runs =
       let m : timed c ≡ time = rw runs in
@@ -123,7 +123,7 @@ module _ (h : Head) (v : Valid h) where
       none (tpdo two) = rw (n .2)
 
   -- a head that is what a tick makes of a valid one
-  leaves : {r : Head} → r ≡ ticked h → Ticks h r
+  leaves : {r : Head} → r ≡ step h tick → Ticks h r
   leaves e = (e, subst Valid (sym e) (valid-step h tick v))
 
   abbrev z : Ticked

@@ -4,7 +4,7 @@ use native.Mathlib.Omega.{arith}
 use mathlib.Core.Path.{_≡_, refl, sym, ap, _∙_}
 use mathlib.Core.Bool.{Bool, true, false, _&&_, cond, and-false, and-not-self}
 use mathlib.Core.List.{List, [], _∷_}
-use Rattle.cases.proofs.Cases.{by, by₂, test}
+use Rattle.cases.proofs.Cases.{by}
 use Rattle.dictionary.specs.Accepted.{on}
 use Rattle.waiting.specs.Line as line
 use Rattle.waiting.specs.Calls.{joinsIn, withdrawsIn, ifDue}

@@ -1,7 +1,7 @@
 -- What is counted of a PDO, and whether it is its moment, where it counts: a tick in Operational, a SYNC there of one that is on
 -- and synchronous.
 use Prim.Native.Nat.{ℕ}
-use mathlib.Core.Bool.{Bool, false, not, _&&_, cond}
+use mathlib.Core.Bool.{Bool, not, _&&_, cond}
 use Rattle.entries.specs.declared.Pdo.{Pdo}
 use Rattle.dictionary.specs.Accepted.{on}
 use Rattle.promises.specs.Timers.{counted, completes, synchronous}

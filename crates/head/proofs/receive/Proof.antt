@@ -1,6 +1,5 @@
 -- `receive` meets its promise: the frame is told apart, and its way leaves the head that the promises say.
 use mathlib.Core.Path.{refl}
-use borrow.Author.Needs.{needs}
 use Rattle.steps.proofs.Received.{leaves, profile-valid, value-fits}
 use Rattle.head.proofs.receive.Statement.{statement}
 use Rattle.head.proofs.receive.Tie as tie
