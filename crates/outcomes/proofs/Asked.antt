@@ -2,7 +2,7 @@
 use mathlib.Core.Path.{refl}
 use denote.Ref.{now}
 use Rattle.promises.proofs.Histories.{valid-reachable}
-use Rattle.outcomes.specs.Asked.{Asked}
+use Rattle.outcomes.specs.Asked.{Asked, LentAsked}
 
 pub asked : Asked
 asked =
@@ -94,16 +94,6 @@ asked =
       head·sample-missing = λ κs a. valid-reachable (a .0);
       head·sample-raw = λ κs a. valid-reachable (a .0);
       head·slot = λ κs a. valid-reachable (a .0);
-      lent·haybleater-power-up = λ M 𝓤 H A m f κs a g. refl;
-      lent·haybleater-receive = (λ κs a. valid-reachable (now (a .0)), λ M 𝓤 H A m f κs a g. refl);
-      lent·haybleater-tick = (λ κs a. valid-reachable (now (a .0)), λ M 𝓤 H A m f κs a g. refl);
-      lent·haybleater-sample = (λ κs a. valid-reachable (now (a .0)), λ M 𝓤 H A m f κs a g. refl);
-      lent·haybleater-missing = (λ κs a. valid-reachable (now (a .0)), λ M 𝓤 H A m f κs a g. refl);
-      lent·haybleater-slot = (λ κs a. valid-reachable (now (a .0)), λ M 𝓤 H A m f κs a g. refl);
-      lent·haybleater-state = λ M 𝓤 H A m f κs a g. refl;
-      lent·haybleater-good = λ M 𝓤 H A m f κs a g. refl;
-      lent·haybleater-position = (λ κs a. valid-reachable (now (a .0)), λ M 𝓤 H A m f κs a g. refl);
-      lent·haybleater-waits = λ M 𝓤 H A m f κs a g. refl;
       lines·empty = λ κs a. tt;
       lines·kept = λ κs a. tt;
       lines·at-most = λ κs a. tt;
@@ -120,4 +110,19 @@ asked =
       feeding·feed = λ κs a. valid-reachable (a .0 .head);
       feeding·chunk = λ κs a o. (valid-reachable (a .0 .head) (o .0), o .1);
       feeding·close = λ κs a. valid-reachable (a .0 .head);
+    }
+
+pub lent-asked : LentAsked
+lent-asked =
+    record {
+      lent·haybleater-power-up = λ M 𝓤 H A m f κs a g. refl;
+      lent·haybleater-receive = (λ κs a. valid-reachable (now (a .0)), λ M 𝓤 H A m f κs a g. refl);
+      lent·haybleater-tick = (λ κs a. valid-reachable (now (a .0)), λ M 𝓤 H A m f κs a g. refl);
+      lent·haybleater-sample = (λ κs a. valid-reachable (now (a .0)), λ M 𝓤 H A m f κs a g. refl);
+      lent·haybleater-missing = (λ κs a. valid-reachable (now (a .0)), λ M 𝓤 H A m f κs a g. refl);
+      lent·haybleater-slot = (λ κs a. valid-reachable (now (a .0)), λ M 𝓤 H A m f κs a g. refl);
+      lent·haybleater-state = λ M 𝓤 H A m f κs a g. refl;
+      lent·haybleater-good = λ M 𝓤 H A m f κs a g. refl;
+      lent·haybleater-position = (λ κs a. valid-reachable (now (a .0)), λ M 𝓤 H A m f κs a g. refl);
+      lent·haybleater-waits = λ M 𝓤 H A m f κs a g. refl;
     }

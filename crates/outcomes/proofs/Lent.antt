@@ -6,18 +6,24 @@ use Rattle.parts.specs.declared.Sent.{Sent}
 use Rattle.promises.specs.Calls.{Call, receive, tick, sample, slot, step}
 use Rattle.promises.specs.Histories.{Reachable}
 use Rattle.promises.proofs.Demand1.{demand1}
-use Rattle.outcomes.specs.Lent.{Lent}
+use Rattle.outcomes.specs.Lent.{Left, Lent}
 
--- a head that is what a call makes of a reachable one
-leaves : (c : Call) (h h′ : Head) → Reachable h → h′ ≡ step h c → Reachable h′
-leaves c h h′ r e = subst Reachable (sym e) (demand1 .goes-on h c r)
+left : (c : Call) (h h′ : Head) → Reachable h → h′ ≡ step h c → Left h c h′
+left c h h′ r e = record { is-step = e; reachable = subst Reachable (sym e) (demand1 .goes-on h c r) }
 
 pub lent : Lent
 lent =
     record {
-      powers-up = λ node i r h fits p. subst Reachable (sym (ap (λ (a : Answer). a .head) (p .0))) (demand1 .starts (record { number = node; identity = i; fits = fits }));
-      receives = λ f r h h′ known p. leaves (receive f) h h′ known (ap (λ (a : Answer). a .head) (p .0));
-      ticks = λ h h′ known p. leaves tick h h′ known (p .0);
-      samples = λ s r h h′ known p. leaves (sample s) h h′ known (ap (λ (a : Answer). a .head) (p .0));
-      slots = λ d h h′ known p. leaves slot h h′ known (ap (λ (s : Sent). s .head) (p .0));
+      powers-up = λ p r h so. let e = ap (λ (a : Answer). a .head) (so .0) in
+          (ap (λ (a : Answer). a .refusal) (so .0), e, subst Reachable (sym e) (demand1 .starts p));
+      receives = λ f r h h′ known so.
+          (ap (λ (a : Answer). a .refusal) (so .0), left (receive f) h h′ known (ap (λ (a : Answer). a .head) (so .0)));
+      ticks = λ h h′ known so. left tick h h′ known (so .0);
+      samples = λ s r h h′ known so.
+          (ap (λ (a : Answer). a .refusal) (so .0), left (sample s) h h′ known (ap (λ (a : Answer). a .head) (so .0)));
+      slots = λ o h h′ known so. (
+        ap (λ (s : Sent). s .waited) (so .0),
+        ap (λ (s : Sent). s .frame) (so .0),
+        left slot h h′ known (ap (λ (s : Sent). s .head) (so .0)),
+      );
     }

@@ -7,7 +7,7 @@ use Rattle.parts.specs.declared.Sent.{Sent}
 use Rattle.promises.specs.Calls.{answered}
 use Rattle.steps.specs.declared.slot.Outgoing.{Outgoing}
 use Rattle.lent.specs.Steps.{sentAs}
-use Rattle.outcomes.specs.Outcomes.{Outcomes}
+use Rattle.outcomes.specs.Outcomes.{Outcomes, LentOutcomes}
 
 -- two outcomes whose answer is the one that is due, and of which nothing else is left
 same : {A B : Type 0} {due : A} (x y : A × B) → x .1 ≡ y .1 → x .0 ≡ due → y .0 ≡ due → x ≡ y
@@ -113,16 +113,6 @@ outcomes =
       head·sample-missing = λ κs a x y p q. same x y refl (ap (λ (r : Answer). r .head) (p .0)) (ap (λ (r : Answer). r .head) (q .0));
       head·sample-raw = λ κs a x y p q. same x y refl (p .0) (q .0);
       head·slot = λ κs a x y p q. same x y refl (p .0) (q .0);
-      lent·haybleater-power-up = (λ κs a x y p q. answered-alike x y refl (p .0) (q .0), λ M 𝓤 H A m f κs a g r e. refl);
-      lent·haybleater-receive = (λ κs a x y p q. answered-alike x y refl (p .0) (q .0), λ M 𝓤 H A m f κs a g r e. refl);
-      lent·haybleater-tick = (λ κs a x y p q. left-alike x y refl refl (p .0) (q .0), λ M 𝓤 H A m f κs a g r e. refl);
-      lent·haybleater-sample = (λ κs a x y p q. answered-alike x y refl (p .0) (q .0), λ M 𝓤 H A m f κs a g r e. refl);
-      lent·haybleater-missing = (λ κs a x y p q. left-alike x y refl refl (ap (λ (a : Answer). a .head) (p .0)) (ap (λ (a : Answer). a .head) (q .0)), λ M 𝓤 H A m f κs a g r e. refl);
-      lent·haybleater-slot = (λ κs a x y p q. sent-alike x y refl (p .0) (q .0), λ M 𝓤 H A m f κs a g r e. refl);
-      lent·haybleater-state = (λ κs a x y p q. same x y refl p q, λ M 𝓤 H A m f κs a g r e. refl);
-      lent·haybleater-good = (λ κs a x y p q. same x y refl p q, λ M 𝓤 H A m f κs a g r e. refl);
-      lent·haybleater-position = (λ κs a x y p q. same x y refl p q, λ M 𝓤 H A m f κs a g r e. refl);
-      lent·haybleater-waits = (λ κs a x y p q. same x y refl p q, λ M 𝓤 H A m f κs a g r e. refl);
       lines·empty = λ κs a x y. same x y refl;
       lines·kept = λ κs a x y. same x y refl;
       lines·at-most = λ κs a x y. same x y refl;
@@ -139,4 +129,19 @@ outcomes =
       feeding·feed = λ κs a x y p q. same x y refl (p .0) (q .0);
       feeding·chunk = λ κs a x y p q. same x y (λ i. (tt, (tt, ((p .1 ∙ sym (q .1)) i, tt)))) (p .0) (q .0);
       feeding·close = λ κs a x y. same x y refl;
+    }
+
+pub lent-outcomes : LentOutcomes
+lent-outcomes =
+    record {
+      lent·haybleater-power-up = (λ κs a x y p q. answered-alike x y refl (p .0) (q .0), λ M 𝓤 H A m f κs a g r e. refl);
+      lent·haybleater-receive = (λ κs a x y p q. answered-alike x y refl (p .0) (q .0), λ M 𝓤 H A m f κs a g r e. refl);
+      lent·haybleater-tick = (λ κs a x y p q. left-alike x y refl refl (p .0) (q .0), λ M 𝓤 H A m f κs a g r e. refl);
+      lent·haybleater-sample = (λ κs a x y p q. answered-alike x y refl (p .0) (q .0), λ M 𝓤 H A m f κs a g r e. refl);
+      lent·haybleater-missing = (λ κs a x y p q. left-alike x y refl refl (ap (λ (a : Answer). a .head) (p .0)) (ap (λ (a : Answer). a .head) (q .0)), λ M 𝓤 H A m f κs a g r e. refl);
+      lent·haybleater-slot = (λ κs a x y p q. sent-alike x y refl (p .0) (q .0), λ M 𝓤 H A m f κs a g r e. refl);
+      lent·haybleater-state = (λ κs a x y p q. same x y refl p q, λ M 𝓤 H A m f κs a g r e. refl);
+      lent·haybleater-good = (λ κs a x y p q. same x y refl p q, λ M 𝓤 H A m f κs a g r e. refl);
+      lent·haybleater-position = (λ κs a x y p q. same x y refl p q, λ M 𝓤 H A m f κs a g r e. refl);
+      lent·haybleater-waits = (λ κs a x y p q. same x y refl p q, λ M 𝓤 H A m f κs a g r e. refl);
     }

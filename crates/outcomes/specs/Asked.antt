@@ -41,7 +41,7 @@ use Rattle.commands.proofs as commands
 use Rattle.feeding.proofs as feeding
 use Rattle.outcomes.specs.Outcome.{AsksNothing, AsksOnly, AsksNothingOf, AsksOnlyOf}
 
-pub record Asked : Type 2 where
+pub record Asked : Type 0 where
   pub can·refusal : AsksNothing can.refusal.ended can.refusal.Reads.Asked
   pub can·word : AsksNothing can.word.ended can.word.Reads.Asked
   pub can·long : AsksNothing can.long.ended can.long.Reads.Asked
@@ -130,16 +130,6 @@ pub record Asked : Type 2 where
   pub head·sample-missing : AsksOnly head.sample_missing.ended (λ κs a. Reachable (a .0)) head.sample_missing.Reads.Asked
   pub head·sample-raw : AsksOnly head.sample_raw.ended (λ κs a. Reachable (a .0)) head.sample_raw.Reads.Asked
   pub head·slot : AsksOnly head.slot.ended (λ κs a. Reachable (a .0)) head.slot.Reads.Asked
-  pub lent·haybleater-power-up : AsksNothingOf lent.haybleater_power_up.ended (λ M. lent.haybleater_power_up.clauses {M = M})
-  pub lent·haybleater-receive : AsksOnlyOf lent.haybleater_receive.ended (λ κs a. Reachable (now (a .0))) (λ κs a. Valid (now (a .0))) (λ M. lent.haybleater_receive.clauses {M = M})
-  pub lent·haybleater-tick : AsksOnlyOf lent.haybleater_tick.ended (λ κs a. Reachable (now (a .0))) (λ κs a. Valid (now (a .0))) (λ M. lent.haybleater_tick.clauses {M = M})
-  pub lent·haybleater-sample : AsksOnlyOf lent.haybleater_sample.ended (λ κs a. Reachable (now (a .0))) (λ κs a. Valid (now (a .0))) (λ M. lent.haybleater_sample.clauses {M = M})
-  pub lent·haybleater-missing : AsksOnlyOf lent.haybleater_missing.ended (λ κs a. Reachable (now (a .0))) (λ κs a. Valid (now (a .0))) (λ M. lent.haybleater_missing.clauses {M = M})
-  pub lent·haybleater-slot : AsksOnlyOf lent.haybleater_slot.ended (λ κs a. Reachable (now (a .0))) (λ κs a. Valid (now (a .0))) (λ M. lent.haybleater_slot.clauses {M = M})
-  pub lent·haybleater-state : AsksNothingOf lent.haybleater_state.ended (λ M. lent.haybleater_state.clauses {M = M})
-  pub lent·haybleater-good : AsksNothingOf lent.haybleater_good.ended (λ M. lent.haybleater_good.clauses {M = M})
-  pub lent·haybleater-position : AsksOnlyOf lent.haybleater_position.ended (λ κs a. Reachable (now (a .0))) (λ κs a. Valid (now (a .0))) (λ M. lent.haybleater_position.clauses {M = M})
-  pub lent·haybleater-waits : AsksNothingOf lent.haybleater_waits.ended (λ M. lent.haybleater_waits.clauses {M = M})
   pub lines·empty : AsksNothing lines.empty.ended lines.empty.Reads.Asked
   pub lines·kept : AsksNothing lines.kept.ended lines.kept.Reads.Asked
   pub lines·at-most : AsksNothing lines.at_most.ended lines.at_most.Reads.Asked
@@ -157,3 +147,16 @@ pub record Asked : Type 2 where
   -- a line prints at most 64 bytes: room for so many for each byte of input
   pub feeding·chunk : AsksOnly feeding.chunk.ended (λ κs a. (Reachable (a .0 .head)) × (longest * length (now (a .1 .0)) ≤ length (now (a .1 .1 .0)))) feeding.chunk.Reads.Asked
   pub feeding·close : AsksOnly feeding.close.ended (λ κs a. Reachable (a .0 .head)) feeding.close.Reads.Asked
+
+-- The calls of `lent`: their clauses speak of any memory, so that this is no statement that a function can ensure.
+pub record LentAsked : Type 2 where
+  pub lent·haybleater-power-up : AsksNothingOf lent.haybleater_power_up.ended (λ M. lent.haybleater_power_up.clauses {M = M})
+  pub lent·haybleater-receive : AsksOnlyOf lent.haybleater_receive.ended (λ κs a. Reachable (now (a .0))) (λ κs a. Valid (now (a .0))) (λ M. lent.haybleater_receive.clauses {M = M})
+  pub lent·haybleater-tick : AsksOnlyOf lent.haybleater_tick.ended (λ κs a. Reachable (now (a .0))) (λ κs a. Valid (now (a .0))) (λ M. lent.haybleater_tick.clauses {M = M})
+  pub lent·haybleater-sample : AsksOnlyOf lent.haybleater_sample.ended (λ κs a. Reachable (now (a .0))) (λ κs a. Valid (now (a .0))) (λ M. lent.haybleater_sample.clauses {M = M})
+  pub lent·haybleater-missing : AsksOnlyOf lent.haybleater_missing.ended (λ κs a. Reachable (now (a .0))) (λ κs a. Valid (now (a .0))) (λ M. lent.haybleater_missing.clauses {M = M})
+  pub lent·haybleater-slot : AsksOnlyOf lent.haybleater_slot.ended (λ κs a. Reachable (now (a .0))) (λ κs a. Valid (now (a .0))) (λ M. lent.haybleater_slot.clauses {M = M})
+  pub lent·haybleater-state : AsksNothingOf lent.haybleater_state.ended (λ M. lent.haybleater_state.clauses {M = M})
+  pub lent·haybleater-good : AsksNothingOf lent.haybleater_good.ended (λ M. lent.haybleater_good.clauses {M = M})
+  pub lent·haybleater-position : AsksOnlyOf lent.haybleater_position.ended (λ κs a. Reachable (now (a .0))) (λ κs a. Valid (now (a .0))) (λ M. lent.haybleater_position.clauses {M = M})
+  pub lent·haybleater-waits : AsksNothingOf lent.haybleater_waits.ended (λ M. lent.haybleater_waits.clauses {M = M})

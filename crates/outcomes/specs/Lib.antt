@@ -1,4 +1,7 @@
 pub mod Outcome
 pub mod Outcomes
 pub mod Asked
+pub mod ByValue
 pub mod Lent
+pub mod Told
+pub mod Talks

@@ -24,6 +24,11 @@ OneOutcome T Learnt =
     (κs : Lfts (T .signature .lifetimes)) (a : Args (T .signature) κs) (x y : Res (T .signature) κs × Lasts T κs a)
     → Learnt κs a (x .0) (atExit T κs a (x .1)) → Learnt κs a (y .0) (atExit T κs a (y .1)) → x ≡ y
 
+-- what a caller learns of the outcome is this
+abbrev pub Promises : (T : Ended) → Promise T → Promise T → Type 0
+Promises T This Learnt =
+    (κs : Lfts (T .signature .lifetimes)) (a : Args (T .signature) κs) (r : Res (T .signature) κs) (e : AtExit T κs) → Learnt κs a r e → This κs a r e
+
 -- what is asked of the arguments
 abbrev pub Need : Ended → Type 1
 Need T = (κs : Lfts (T .signature .lifetimes)) → Args (T .signature) κs → Type 0

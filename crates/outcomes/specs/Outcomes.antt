@@ -37,7 +37,7 @@ use Rattle.commands.proofs as commands
 use Rattle.feeding.proofs as feeding
 use Rattle.outcomes.specs.Outcome.{OneOutcome, OneOutcomeOf}
 
-pub record Outcomes : Type 2 where
+pub record Outcomes : Type 0 where
   pub can·refusal : OneOutcome can.refusal.ended can.refusal.Reads.Learnt
   pub can·word : OneOutcome can.word.ended can.word.Reads.Learnt
   pub can·long : OneOutcome can.long.ended can.long.Reads.Learnt
@@ -125,16 +125,6 @@ pub record Outcomes : Type 2 where
   pub head·sample-missing : OneOutcome head.sample_missing.ended head.sample_missing.Reads.Learnt
   pub head·sample-raw : OneOutcome head.sample_raw.ended head.sample_raw.Reads.Learnt
   pub head·slot : OneOutcome head.slot.ended head.slot.Reads.Learnt
-  pub lent·haybleater-power-up : OneOutcomeOf lent.haybleater_power_up.ended (λ κs a r e. PowersUp (a .1 .0 .node) (a .1 .0 .identity) (answered r (now (e .0)))) (λ M. lent.haybleater_power_up.clauses {M = M})
-  pub lent·haybleater-receive : OneOutcomeOf lent.haybleater_receive.ended (λ κs a r e. Receives (now (a .0)) (a .1 .0) (answered r (now (e .0)))) (λ M. lent.haybleater_receive.clauses {M = M})
-  pub lent·haybleater-tick : OneOutcomeOf lent.haybleater_tick.ended (λ κs a r e. Ticks (now (a .0)) (now (e .0))) (λ M. lent.haybleater_tick.clauses {M = M})
-  pub lent·haybleater-sample : OneOutcomeOf lent.haybleater_sample.ended (λ κs a r e. Samples (now (a .0)) (Raw (a .1 .0)) (answered r (now (e .0)))) (λ M. lent.haybleater_sample.clauses {M = M})
-  pub lent·haybleater-missing : OneOutcomeOf lent.haybleater_missing.ended (λ κs a r e. Samples (now (a .0)) Missing (answered 0 (now (e .0)))) (λ M. lent.haybleater_missing.clauses {M = M})
-  pub lent·haybleater-slot : OneOutcomeOf lent.haybleater_slot.ended (λ κs a r e. Slots (now (a .0)) (sentAs r (now (e .0)))) (λ M. lent.haybleater_slot.clauses {M = M})
-  pub lent·haybleater-state : OneOutcomeOf lent.haybleater_state.ended (λ κs a r e. r ≡ stateCode (now (a .0))) (λ M. lent.haybleater_state.clauses {M = M})
-  pub lent·haybleater-good : OneOutcomeOf lent.haybleater_good.ended (λ κs a r e. r ≡ isGood (now (a .0))) (λ M. lent.haybleater_good.clauses {M = M})
-  pub lent·haybleater-position : OneOutcomeOf lent.haybleater_position.ended (λ κs a r e. r ≡ positionOf (now (a .0))) (λ M. lent.haybleater_position.clauses {M = M})
-  pub lent·haybleater-waits : OneOutcomeOf lent.haybleater_waits.ended (λ κs a r e. r ≡ anyWaits (now (a .0))) (λ M. lent.haybleater_waits.clauses {M = M})
   pub lines·empty : OneOutcome lines.empty.ended lines.empty.Reads.Learnt
   pub lines·kept : OneOutcome lines.kept.ended lines.kept.Reads.Learnt
   pub lines·at-most : OneOutcome lines.at_most.ended lines.at_most.Reads.Learnt
@@ -151,3 +141,16 @@ pub record Outcomes : Type 2 where
   pub feeding·feed : OneOutcome feeding.feed.ended feeding.feed.Reads.Learnt
   pub feeding·chunk : OneOutcome feeding.chunk.ended feeding.chunk.Reads.Learnt
   pub feeding·close : OneOutcome feeding.close.ended feeding.close.Reads.Learnt
+
+-- The calls of `lent`: their clauses speak of any memory, so that this is no statement that a function can ensure.
+pub record LentOutcomes : Type 2 where
+  pub lent·haybleater-power-up : OneOutcomeOf lent.haybleater_power_up.ended (λ κs a r e. PowersUp (a .1 .0 .node) (a .1 .0 .identity) (answered r (now (e .0)))) (λ M. lent.haybleater_power_up.clauses {M = M})
+  pub lent·haybleater-receive : OneOutcomeOf lent.haybleater_receive.ended (λ κs a r e. Receives (now (a .0)) (a .1 .0) (answered r (now (e .0)))) (λ M. lent.haybleater_receive.clauses {M = M})
+  pub lent·haybleater-tick : OneOutcomeOf lent.haybleater_tick.ended (λ κs a r e. Ticks (now (a .0)) (now (e .0))) (λ M. lent.haybleater_tick.clauses {M = M})
+  pub lent·haybleater-sample : OneOutcomeOf lent.haybleater_sample.ended (λ κs a r e. Samples (now (a .0)) (Raw (a .1 .0)) (answered r (now (e .0)))) (λ M. lent.haybleater_sample.clauses {M = M})
+  pub lent·haybleater-missing : OneOutcomeOf lent.haybleater_missing.ended (λ κs a r e. Samples (now (a .0)) Missing (answered 0 (now (e .0)))) (λ M. lent.haybleater_missing.clauses {M = M})
+  pub lent·haybleater-slot : OneOutcomeOf lent.haybleater_slot.ended (λ κs a r e. Slots (now (a .0)) (sentAs r (now (e .0)))) (λ M. lent.haybleater_slot.clauses {M = M})
+  pub lent·haybleater-state : OneOutcomeOf lent.haybleater_state.ended (λ κs a r e. r ≡ stateCode (now (a .0))) (λ M. lent.haybleater_state.clauses {M = M})
+  pub lent·haybleater-good : OneOutcomeOf lent.haybleater_good.ended (λ κs a r e. r ≡ isGood (now (a .0))) (λ M. lent.haybleater_good.clauses {M = M})
+  pub lent·haybleater-position : OneOutcomeOf lent.haybleater_position.ended (λ κs a r e. r ≡ positionOf (now (a .0))) (λ M. lent.haybleater_position.clauses {M = M})
+  pub lent·haybleater-waits : OneOutcomeOf lent.haybleater_waits.ended (λ κs a r e. r ≡ anyWaits (now (a .0))) (λ M. lent.haybleater_waits.clauses {M = M})
