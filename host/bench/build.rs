@@ -1,4 +1,4 @@
-//! Links the compiled head: the object or archive that HEAD_OBJECT names.
+//! Links the compiled head, the object or archive that HEAD_OBJECT names.
 
 use std::env;
 

@@ -1,5 +1,6 @@
-# Several runs of `bench times` in, a line a call out: name, target of the ratio, nanoseconds of both heads, their ratio. Each figure is
-# the median of those of the runs: where a program lies in memory makes some calls a few percent slower, otherwise in each run.
+# Reads several runs of `bench times` and prints one line for each call: name, target of the ratio, nanoseconds of both heads, their ratio.
+# Each figure is the median of the runs. A program lies at another place in memory in each run, and this makes some calls a few percent
+# slower.
 
 function median(name, column, n,    i, j, held) {
     for (i = 1; i <= n; i++) {

@@ -1,10 +1,10 @@
-# Adds a field of 320 bytes, `unused`, to the struct `Device` of a head, before its last field: in the middle of what a head holds, and in
-# what a write alters. It stands in the declaration and wherever one is made, there with what it was in the device, core or head that the
-# function is given, or all 0 if it is given none.
+# Adds a field of 320 bytes, `unused`, to the struct `Device` of a head, before its last field. So the field is in the middle of a head and in
+# what a write changes. The script adds it to the declaration and to each place that makes a `Device`. There the field gets the value that it
+# has in the device, core or head that the function takes, or all 0 if the function takes none of these.
 #   awk -v padded=FOLDER -f pad.awk FILE.rt ..      writes each file to FOLDER/FILE.rt
-# Exactly one declaration is expected, and exactly one place that is given none: the power-up.
+# The script expects exactly one declaration and exactly one function that makes a `Device` and takes none: power-up.
 
-# The parameter of type `type` in this line of a function's heading, and the path behind it to the field; nothing if there is none
+# If this line of a function's heading has a parameter of type `type`: the path from it to the field; otherwise nothing
 function held(type, path) {
     if (!match($0, "[a-z_]+: (&mut |&)?([a-z]+::)*" type "[,)]")) return ""
     return substr($0, RSTART, index(substr($0, RSTART), ":") - 1) path ".unused"
@@ -29,12 +29,12 @@ heading {
 
 /^pub struct Device \{$/ { declaring = 1; declared++ }
 
-# `last` is the field before
+# `last` is the field before this one
 declaring && /^ *pub [a-z]/ && !/struct/ { printf "%s", last >file; last = $0 "\n"; next }
 
 declaring && /^}/ { printf "    pub unused: [u32; 80],\n%s", last >file; declaring = 0; last = "" }
 
-# A literal
+# A literal of a `Device`
 !declaring && /(^|[ (:])Device \{/ && !/(struct|impl|->) ([a-z]+::)*Device \{/ {
     if (!given) {
         born++

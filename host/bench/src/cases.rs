@@ -1,5 +1,5 @@
-//! What is measured: a call, the calls that bring a head to it, and the frames that a head sends
-//! from it on.
+//! The measured calls: for each the calls that prepare a head for it, and the frames that a head sends
+//! from then on.
 
 use reference::{Frame, Received};
 
@@ -16,16 +16,16 @@ pub enum Call {
 
 pub struct Case {
     pub name: &'static str,
-    /// How many times as long as the reference's the call may take.
+    /// The call's time may be at most this many times the reference's.
     pub target: f64,
     before: Vec<Call>,
     pub call: Call,
-    /// As the session program prints them.
+    /// The frames, as the session program prints them.
     sends: &'static str,
 }
 
 impl Case {
-    /// A head to which the call is made next.
+    /// A head that is ready for the call.
     pub fn prepared<H: Head>(&self) -> H {
         let mut head = H::power_up();
         for call in &self.before {
@@ -34,7 +34,7 @@ impl Case {
         head
     }
 
-    /// Whether a head of this kind sends what the case says.
+    /// True if a head of this kind sends what the case says.
     pub fn holds<H: Head>(&self) -> bool {
         let mut head = self.prepared::<H>();
         let first = sent_by(&mut head, &self.call);
@@ -126,7 +126,7 @@ fn busy() -> Vec<Call> {
     then(operational(), [heartbeat, Call::Slot, tpdo1, Call::Slot])
 }
 
-/// As `busy`, and all five kinds wait; the emergency is to say that the reading is good again.
+/// As `busy`, and all five kinds wait; the emergency announces that the reading is good again.
 fn full() -> Vec<Call> {
     use Call::{Missing, Sample, Slot, Tick};
     let reply = read(0x6004, 0);
@@ -137,7 +137,7 @@ fn then<const N: usize>(before: Vec<Call>, more: [Call; N]) -> Vec<Call> {
     [before, more.to_vec()].concat()
 }
 
-/// A case of a call that is to take at most 1.3 times as long as the reference's.
+/// A case whose call may take at most 1.3 times as long as the reference's.
 fn case(name: &'static str, before: Vec<Call>, call: Call, sends: &'static str) -> Case {
     Case {
         name,
@@ -170,7 +170,7 @@ const BOOT_UP: &str = "701 1 00";
 const ANNOUNCED: &str = "081 8 00 50 01 00 00 00 00 00";
 const TPDO1: &str = "181 4 05 10 01 00";
 const TPDO2: &str = "281 4 05 10 01 00";
-/// What `full` sends.
+/// The frames that `full` sends.
 const ALL_FIVE: &str = "081 8 00 00 00 00 00 00 00 00, 581 8 43 04 60 00 05 10 01 00, \
                         701 1 05, 181 4 05 10 01 00, 281 4 05 10 01 00";
 
@@ -210,7 +210,7 @@ fn frames() -> Vec<Case> {
     ]
 }
 
-/// Those that change the state.
+/// The cases that change the state.
 fn commands() -> Vec<Case> {
     let nmt = |name, before, code, sends| case(name, before, command(code), sends);
     let tpdo2 = then(operational(), [sync()]);

@@ -11,7 +11,7 @@ pub const IDENTITY: Identity = Identity {
 };
 
 pub trait Head: Copy {
-    /// A received frame in the form in which this head takes it.
+    /// A received frame in the form that this head takes.
     type Received: From<Received>;
     /// What a slot answers.
     type Due: Into<Option<Frame>>;

@@ -1,9 +1,9 @@
-//! The proved head against the reference, call by call.
+//! Compares the proved head with the reference, call by call.
 //!
-//!     bench times                 a line a call: name, target of the ratio, nanoseconds of both heads
+//!     bench times                 one line for each call: name, target of the ratio, nanoseconds of both heads
 //!     bench count NAME HEAD N     makes the call to N heads; HEAD is `proved` or `reference`
 //!     bench sizes                 the bytes of a proved head and of a reference
-//!     bench session PROGRAM       the lines a second that a session program takes
+//!     bench session PROGRAM       how many lines per second a session program takes
 
 mod cases;
 mod head;
@@ -56,7 +56,7 @@ fn times() -> Result<(), String> {
     Ok(())
 }
 
-/// Both heads send what the case says: otherwise something else would be measured.
+/// Checks that both heads send what the case says: otherwise the figures would be about something else.
 fn checked(case: &Case) -> Result<(), String> {
     let wrong = match (
         case.holds::<proved::Head>(),

@@ -6,16 +6,16 @@ use std::time::{Duration, Instant};
 use crate::cases::{Call, Case};
 use crate::head::Head;
 
-/// Heads that a pass makes the call to, one after the other; they fit a first-level cache.
+/// A pass makes the call to this many heads, one after the other; they fit into a first-level cache.
 const BATCH: usize = 64;
-/// Passes of a repetition; before each the heads are restored. Few, so that most repetitions are
-/// not interrupted.
+/// Passes of a repetition; the heads are restored before each. The number is small so that most
+/// repetitions are not interrupted.
 const PASSES: u32 = 4;
 const REPETITIONS: usize = 501;
-/// Heads of a count of instructions, of which some get the call.
+/// Heads in a count of instructions; some of them get the call.
 const COUNTED: usize = 4096;
 
-/// Nanoseconds of a call to heads of two kinds, measured by turns.
+/// Nanoseconds of a call to heads of two kinds, measured in turn.
 pub fn times<A: Head, B: Head>(case: &Case) -> (f64, f64) {
     let (a, b) = (case.prepared::<A>(), case.prepared::<B>());
     let (a, b) = (0..REPETITIONS)
@@ -24,7 +24,7 @@ pub fn times<A: Head, B: Head>(case: &Case) -> (f64, f64) {
     (median(a), median(b))
 }
 
-/// The median of figures, of which there is at least one.
+/// The median of at least one figure.
 pub fn median(mut figures: Vec<f64>) -> f64 {
     figures.sort_by(f64::total_cmp);
     figures[figures.len() / 2]
@@ -51,8 +51,8 @@ fn spent(work: impl FnOnce()) -> Duration {
     start.elapsed()
 }
 
-/// Makes the call to `calls` heads and passes over the others, so that each call more adds what
-/// the call takes and nothing else. Whether there are so many heads.
+/// Makes the call to `calls` heads and skips the others, so that one more call adds only the cost of
+/// the call. Returns false if there are not so many heads.
 pub fn count<H: Head>(case: &Case, calls: usize) -> bool {
     let mut heads = [case.prepared::<H>(); COUNTED];
     let split = heads.split_at_mut_checked(calls);

@@ -4,16 +4,16 @@ use std::mem::MaybeUninit;
 
 use crate::head::{self, IDENTITY, NODE};
 
-/// The most words of a head.
+/// A head has at most this many words.
 const WORDS: usize = if cfg!(feature = "padded") {
     64 + 80
 } else {
     64
 };
-/// The most bytes of a head.
+/// A head has at most this many bytes.
 pub const LARGEST: usize = WORDS * size_of::<u32>();
-/// Words of memory that are lent for a head. One more than it may take: of many heads side by side each
-/// then lies differently in the lines of a cache.
+/// Words of memory that are lent for a head: one more than it may have. So of many heads side by side each
+/// starts at another place in its cache line.
 const ROOM: usize = WORDS + 1;
 
 #[derive(Clone, Copy)]
@@ -63,12 +63,12 @@ pub struct Outgoing {
     frame: Frame,
 }
 
-// `haybleater_slot` is compiled with the place of its answer as first argument, which it returns:
-// this is how C returns a structure of that size on x86-64, and not on other processors.
+// The compiled `haybleater_slot` takes the address of its answer as first argument and returns this address.
+// C returns a structure of that size in this way on x86-64, but not on other processors.
 extern "C" {
     #[cfg(target_arch = "x86_64")]
     fn haybleater_power_up(head: *mut u32, setup: Setup) -> u8;
-    /// Compiled with what is set up on the stack, as C has it on x86-64: behind the eight arguments in registers.
+    /// The compiled function takes the setup on the stack, as C does on x86-64: behind the eight arguments in registers.
     #[cfg(not(target_arch = "x86_64"))]
     fn haybleater_power_up(
         head: *mut u32,
@@ -117,11 +117,11 @@ unsafe fn power_up(memory: *mut u32) {
     haybleater_power_up(memory, 0, 0, 0, 0, 0, 0, 0, first, second, third);
 }
 
-/// The bytes of a head: up to the last word that power-up writes, whatever the memory held before.
+/// The bytes of a head: up to the last word that power-up writes, whatever was in the memory before.
 pub fn size() -> usize {
     let written = |held| {
         let mut memory = [held; 4 * ROOM];
-        // SAFETY: the memory is four times what a head may take.
+        // SAFETY: the memory is four times as large as a head may be.
         unsafe { power_up(memory.as_mut_ptr()) };
         memory.iter().rposition(|word| *word != held)
     };
@@ -129,8 +129,8 @@ pub fn size() -> usize {
     last.map_or(0, |last| (last + 1) * size_of::<u32>())
 }
 
-// SAFETY of the calls: the memory is a head's since power-up, and large enough by `size`, which is
-// looked at before any other call.
+// SAFETY of the calls: the memory holds a head since power-up. It is large enough: `size` says so and is
+// checked before any other call.
 impl head::Head for Head {
     type Received = Received;
     type Due = Outgoing;

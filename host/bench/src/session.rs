@@ -1,4 +1,4 @@
-//! Lines of input that a session program takes in a second.
+//! Measures how many lines of input a session program takes per second.
 
 use std::io::Write;
 use std::process::{Command, Stdio};
@@ -18,7 +18,7 @@ pub fn lines_per_second(program: &str) -> Result<f64, String> {
     Ok(lines as f64 / median(seconds))
 }
 
-/// What a run takes from the first byte of the input to its end.
+/// The time of a run, from the first byte of the input to the end of the run.
 fn seconds(program: &str, input: &[u8]) -> Result<f64, String> {
     let say = |error: std::io::Error| format!("{program}: {error}");
     let mut child = Command::new(program)
