@@ -1,6 +1,7 @@
 """A transcript: a line of the session's input and, behind `  => `, the line that it prints. A line that begins with `;;` or `# `, or
 an empty one, is a remark: it is not run."""
 import pathlib
+import signal
 import sys
 from typing import NamedTuple, Optional
 
@@ -58,3 +59,8 @@ def read_text(name):
         sys.exit(f"{name}: {error.strerror}")
     except UnicodeDecodeError:
         sys.exit(f"{name}: not a text in UTF-8")
+
+
+def end_quietly():
+    """Lets the program end without a word when its reader, such as head, has read enough."""
+    signal.signal(signal.SIGPIPE, signal.SIG_DFL)
