@@ -1,0 +1,228 @@
+"""Where the data sheet and the head differ: each function yields one line for each difference."""
+import re
+
+from head import VALUE, WRITTEN, abort_code
+from sheet import ARRAY, VAR, Fault, at_node
+
+NODES = (1, 127)
+
+NO_SUCH_INDEX, NO_SUCH_SUB_INDEX = 0x06020000, 0x06090011
+READ_ONLY, BAD_VALUE, BAD_SIGNATURE = 0x06010002, 0x06090030, 0x08000020
+BAD_STATE, BLANK = 0x08000022, 0x08000024
+
+# 01: "settings (rw entries but 1003, 1010, 1011 ..)": no download writes these, bit 0 of ObjFlags.
+COMMANDS = {0x1003_00, 0x1010_01, 0x1011_01}
+REFUSE_DOWNLOAD = 1
+# They read 1 and are written with a signature, so they have no limits.
+SIGNATURES = {0x1010_01, 0x1011_01}
+# ARRAY by CiA 301 and CiA 406; other objects with sub-indices are a RECORD.
+ARRAYS = {0x1003, 0x1010, 0x1011, 0x6005}
+MAPPINGS = range(0x1A00, 0x1C00)
+
+# What brings a head into the state that a comment names, before an entry is written
+SCALING_ON = ("write", 0x6000_00, 2, 0x0004)
+CONDITIONS = {
+    "scaling is on (bit 2 of 6000 is 1)": lambda entry: (SCALING_ON,),
+    "the reading is good": lambda entry: (("sample", 0),),
+    "the PDO is off (bit 31 of its sub1 is 1)": lambda entry: (("write", entry.index << 8 | 1, 4, 0x8000_0000),),
+}
+
+# Sentences of the comments, each with trials and the number that the reply to the last step has: a value, an abort code, 0 for "written"
+SAMPLE = ("sample", 100)
+RANGE, STEP, PRESET = ("write", 0x6002_00, 4, 1000), ("write", 0x6005_01, 4, 10_000), ("write", 0x6003_00, 4, 40)
+IN_ORDER = (SCALING_ON, RANGE, STEP, SAMPLE, PRESET)
+READ_PRESET, READ_OFFSET = ("read", 0x6003_00), ("read", 0x6509_00)
+FACTS = {
+    "A write of 6003 has to be below 6002. Its HighLimit is for the highest range.": [
+        ((SCALING_ON, RANGE, SAMPLE, ("write", 0x6003_00, 4, 999)), 0),
+        ((SCALING_ON, RANGE, SAMPLE, ("write", 0x6003_00, 4, 1000)), BAD_VALUE)],
+    "While a PDO is on, its sub1 still accepts the number that it holds, and numbers with bit 31 set, which switch it off.": [
+        ((("write", pdo << 8 | 1, 4, number), ("read", pdo << 8 | 1)), number) for pdo in (0x1800, 0x1801) for number in (0x8000_0000, 0x8000_07FF)],
+    "The default of 6002 is above its limit: 1048576 holds while scaling is off, and a write of 6000 with bit 2 clear brings it back.": [
+        ((SCALING_ON, ("read", 0x6002_00)), 1_000_000),
+        ((SCALING_ON, RANGE, ("write", 0x6000_00, 2, 0), ("read", 0x6002_00)), 1_048_576)],
+    "Write 6000 first, then 6002 and 6005sub1, then 6003: each write of the first three sets 6003 and 6509 to 0.": [
+        ((*IN_ORDER, READ_PRESET), 40),
+        ((*IN_ORDER, READ_OFFSET), 0xFFFF_FFF6),
+        *(((*IN_ORDER, again, read), 0) for again in (SCALING_ON, RANGE, STEP) for read in (READ_PRESET, READ_OFFSET))],
+    "6200 is 1800sub5 under a second index: a write of one changes both.": [
+        ((("write", 0x6200_00, 2, 7), ("read", 0x1800_05)), 7),
+        ((("write", 0x1800_05, 2, 7), ("read", 0x6200_00)), 7)],
+}
+
+TABLE_LINE = re.compile(r" +entry 0x([0-9A-F]{4}) ([0-9]+) (U8|U16|U32|S32) (ro|rw) .*")
+
+
+def table(entries, specification):
+    """The lines of the proved table have index, sub-index, type and access of the data sheet's entries."""
+    lines = [line for line in specification.splitlines() if line.lstrip().startswith("entry 0x")]
+    proved = {}
+    for line in lines:
+        found = TABLE_LINE.fullmatch(line)
+        if found is None:
+            yield f"a line of the proved table cannot be read: {line.strip()}"
+            continue
+        proved[int(found[1], 16) << 8 | int(found[2])] = (found[3], found[4])
+    listed = {entry.key: (entry.type, entry.access) for entry in entries}
+    for key in sorted(proved.keys() | listed.keys()):
+        if proved.get(key) != listed.get(key):
+            yield f"{name(key)}: {words(listed.get(key))} in the data sheet, {words(proved.get(key))} in the proved table"
+
+
+def name(key):
+    """An entry as 01 names it: 1800-5."""
+    return f"{key >> 8:04X}-{key & 0xFF}"
+
+
+def number_of(reply):
+    """The value or abort code that a reply carries."""
+    return int.from_bytes(reply[4:], "little")
+
+
+def words(found):
+    """Type and access, or that there are none."""
+    return " ".join(found) if found else "nothing"
+
+
+def existence(objects, head):
+    """The head has the indices and the sub-indices that the data sheet lists, and no others."""
+    listed = {index: [entry.key for entry in entries] for index, (_, entries) in objects.items()}
+    for node in NODES:
+        there = head.entries(node, NO_SUCH_INDEX, NO_SUCH_SUB_INDEX)
+        for index in sorted(listed.keys() | there.keys()):
+            if index not in there:
+                yield f"{index:04X}h is in the data sheet, and node {node} has no such index"
+            elif index not in listed:
+                yield f"{index:04X}h is not in the data sheet, and node {node} has it"
+            elif listed[index] != there[index]:
+                yield f"{index:04X}h: the data sheet and node {node} have other sub-indices"
+
+
+def shapes(objects):
+    """An object with sub-index 0 alone is a VAR; of others CiA decides."""
+    for index, (kind, entries) in objects.items():
+        if (kind == VAR) != (len(entries) == 1) or (kind == ARRAY) != (index in ARRAYS):
+            yield f"{index:04X}h has another ObjectType"
+
+
+def reads(entries, head, twin, node):
+    """Type and default are what a fresh head answers. What is blank, or differs in a twin of another serial number, has no default."""
+    keys = [entry.key for entry in entries]
+    for entry, reply, other in zip(entries, head.reads(node, keys).values(), twin.reads(node, keys).values()):
+        code = abort_code(reply)
+        if code not in (None, BLANK):
+            yield f"{name(entry.key)}: node {node} aborts a read with {code:08X}h"
+        elif (code == BLANK or reply != other) != (entry.default is None):
+            yield f"{name(entry.key)}: a default is missing, or has no meaning: node {node} answers {reply.hex(' ')}"
+        elif code is None and VALUE.get(reply[0]) != entry.width:
+            yield f"{name(entry.key)}: node {node} answers a read with another length than that of {entry.type}"
+        elif entry.default and number_of(reply) != at_node(entry.default, node, f"[{entry.section}] DefaultValue"):
+            yield f"{name(entry.key)}: DefaultValue is not what node {node} answers, {reply.hex(' ')}"
+
+
+def access(entries, head, node):
+    """A write is refused as one to a ro entry exactly if the data sheet says so."""
+    trials = [(write(entry, 0),) for entry in entries]
+    for entry, reply in zip(entries, head.replies(node, trials)):
+        if (abort_code(reply) == READ_ONLY) != (entry.access == "ro"):
+            yield f"{name(entry.key)}: AccessType {entry.access}, and node {node} answers a write with {reply.hex(' ')}"
+
+
+def limits(entries, comments):
+    """A rw entry has limits, the lowest and the highest number that any node accepts; ro entries and signatures have none."""
+    for entry in entries:
+        limited = entry.access == "rw" and entry.key not in SIGNATURES
+        if (entry.low is None) == limited or (entry.high is None) == limited:
+            yield f"{name(entry.key)}: limits are missing, or it has none"
+            continue
+        if (entry.flags == REFUSE_DOWNLOAD) != (entry.key in COMMANDS) or entry.flags > REFUSE_DOWNLOAD:
+            yield f"{name(entry.key)}: ObjFlags is 1 of 1003-0, 1010-1, 1011-1 alone"
+        if limited:
+            ranges = [each for node in NODES for each in comments.ranges(entry, node)]
+            if (entry.low, entry.high) != (min(low for low, _ in ranges), max(high for _, high in ranges)):
+                yield f"{name(entry.key)}: the limits are not the ends of what the comments say"
+
+
+def tried(entry, ranges):
+    """The numbers to write: all of a byte; otherwise every end, the number before and behind it, and each bit alone."""
+    if entry.width == 1:
+        return list(range(0x100))
+    ends = [end + by for pair in ranges for end in pair for by in (-1, 0, 1)]
+    bits = [1 << bit for bit in range(8 * entry.width)]
+    return sorted(number for number in {*ends, *bits} if 0 <= number < 1 << 8 * entry.width)
+
+
+def prepared(entry, comments):
+    """The steps before a write, by the comment that names the state for it."""
+    condition = comments.conditions.get(entry.section)
+    if condition is None:
+        return ()
+    if condition not in CONDITIONS:
+        raise Fault(f"[Comments] on {entry.section}: no known state: {condition}")
+    return CONDITIONS[condition](entry)
+
+
+def write(entry, number):
+    """The step that writes a number to an entry."""
+    return ("write", entry.key, entry.width, number)
+
+
+def values(entries, comments, head, node):
+    """In the state for it a write of an accepted number is accepted, and any other refused for its value."""
+    ranges = {entry: comments.ranges(entry, node) for entry in entries}
+    attempts = [(entry, number) for entry in entries for number in tried(entry, ranges[entry])]
+    trials = [(*prepared(entry, comments), write(entry, number)) for entry, number in attempts]
+    for (entry, number), reply in zip(attempts, head.replies(node, trials)):
+        accepted = any(low <= number <= high for low, high in ranges[entry])
+        refusal = BAD_SIGNATURE if entry.key in SIGNATURES else BAD_VALUE
+        if accepted != (reply[0] == WRITTEN) or abort_code(reply) != (None if accepted else refusal):
+            yield f"{name(entry.key)}: node {node} answers a write of {number:#x} with {reply.hex(' ')}"
+
+
+def states(entries, comments, head, node):
+    """In the state after power-up an accepted number is refused exactly if a comment names another state."""
+    trials = [(write(entry, comments.ranges(entry, node)[0][-1]),) for entry in entries]
+    for entry, reply in zip(entries, head.replies(node, trials)):
+        if abort_code(reply) != (BAD_STATE if entry.section in comments.conditions else None):
+            yield f"{name(entry.key)}: the comments on its state do not fit node {node}: it answers a write with {reply.hex(' ')}"
+
+
+def facts(comments, head, node):
+    """The sentences that only hold over several requests stand in the comments, and hold."""
+    for sentence, trials in FACTS.items():
+        if sentence not in comments.sentences:
+            yield f"[Comments] do not say: {sentence}"
+        replies = head.replies(node, [trial for trial, _ in trials])
+        for (trial, due), reply in zip(trials, replies):
+            if number_of(reply) != due:
+                yield f"node {node} answers {reply.hex(' ')} to {trial[-1][0]} {name(trial[-1][1])}, against: {sentence}"
+
+
+def mapping(entries, head, node):
+    """An entry can be mapped exactly if the head maps it, in its whole length."""
+    keys = [entry.key for entry in entries if entry.index in MAPPINGS and entry.sub > 0]
+    mapped = {number_of(reply) for reply in head.reads(node, keys).values()}
+    mappable = {entry.key << 8 | 8 * entry.width for entry in entries if entry.mappable}
+    if mapped != mappable:
+        yield f"PDOMapping is not 1 of exactly what node {node} maps"
+
+
+def differences(objects, comments, head, twin, specification):
+    """All of them. The twin is a head that differs in its serial number."""
+    entries = [entry for _, each in objects.values() for entry in each]
+    strangers = comments.names() - {entry.section for entry in entries if entry.access == "rw"}
+    if strangers:
+        raise Fault(f"[Comments] speak of writes to {', '.join(sorted(strangers))}")
+    yield from table(entries, specification)
+    yield from shapes(objects)
+    yield from existence(objects, head)
+    faults = list(limits(entries, comments))
+    yield from faults
+    writable = [] if faults else [entry for entry in entries if entry.access == "rw"]
+    for node in NODES:
+        yield from reads(entries, head, twin, node)
+        yield from access(entries, head, node)
+        yield from mapping(entries, head, node)
+        yield from facts(comments, head, node)
+        yield from values(writable, comments, head, node)
+        yield from states(writable, comments, head, node)

@@ -1,0 +1,145 @@
+"""The head itself, asked over SDO: fresh heads of any node number, in Pre-operational, served by target/host/drive."""
+import pathlib
+import struct
+import subprocess
+
+ROOT = pathlib.Path(__file__).resolve().parent.parent
+DRIVER = ROOT / "target" / "host" / "drive"
+RECORD = 24
+SECONDS = 300
+
+BOOT_UP, EMERGENCY, SDO_REQUEST, SDO_REPLY = 0x700, 0x080, 0x600, 0x580
+PRE_OPERATIONAL = 0x7F
+
+# First byte of a request or reply, by the number of data bytes
+READ = 0x40
+WRITE = {1: 0x2F, 2: 0x2B, 4: 0x23}
+VALUE = {0x4F: 1, 0x4B: 2, 0x43: 4}
+WRITTEN, ABORT = 0x60, 0x80
+
+
+class Stopped(Exception):
+    """The head cannot be asked, in one line."""
+
+
+def power_up(node, identity):
+    """The call that makes a head."""
+    return struct.pack("<cB2x4I4x", b"P", node, *identity)
+
+
+def plain(which):
+    """A call without arguments."""
+    return struct.pack("<c23x", which)
+
+
+def request(node, payload):
+    """The call that brings a service request."""
+    return struct.pack("<c2xBI8s8x", b"F", len(payload), SDO_REQUEST + node, payload)
+
+
+SLOT, KEEP, TAKE_BACK = plain(b"?"), plain(b"K"), plain(b"R")
+
+
+def step_call(node, step):
+    """The call of a step: ("read", key), ("write", key, width, value) or ("sample", raw)."""
+    what, *numbers = step
+    if what == "sample":
+        return struct.pack("<c3xI16x", b"S", *numbers)
+    key, width, value = numbers if what == "write" else (*numbers, 0, 0)
+    first = WRITE[width] if what == "write" else READ
+    return request(node, struct.pack("<BHBI", first, key >> 8, key & 0xFF, value))
+
+
+def run(calls):
+    """The driver's answers to the calls."""
+    if not DRIVER.exists():
+        raise Stopped("target/host/drive is missing: run host/build first")
+    command = [ROOT / "host" / "run", DRIVER]
+    try:
+        done = subprocess.run(command, input=b"".join(calls), stdout=subprocess.PIPE, check=True, timeout=SECONDS)
+    except (OSError, subprocess.SubprocessError) as error:
+        raise Stopped(f"target/host/drive failed: {error}") from None
+    if len(done.stdout) != RECORD * len(calls):
+        raise Stopped("target/host/drive did not answer every call")
+    return [done.stdout[at:at + RECORD] for at in range(0, len(done.stdout), RECORD)]
+
+
+def frame(answer):
+    """Identifier and bytes of the frame that a slot sent, or None."""
+    sent, length, identifier = struct.unpack_from("<BB2xI", answer)
+    return (identifier, answer[8:8 + length]) if sent else None
+
+
+def abort_code(reply):
+    """The code of an abort; None of any other reply."""
+    return int.from_bytes(reply[4:], "little") if reply[0] == ABORT else None
+
+
+class Head:
+    """Fresh heads of each node number with one identity. `altered` are replies that a wrong head would give instead."""
+
+    def __init__(self, identity, altered=(), known=None):
+        self.identity = identity
+        self.altered = altered
+        self.known = {} if known is None else known
+        self.scans = {}
+
+    def replies(self, node, trials):
+        """The reply to the last step of each trial, a tuple of steps that a fresh head takes."""
+        known = self.known.setdefault((node, self.identity), {})
+        new = [trial for trial in dict.fromkeys(trials) if trial not in known]
+        if new:
+            known.update(zip(new, self.ask(node, new)))
+        return [self.alter(node, trial[-1], known[trial]) for trial in trials]
+
+    def ask(self, node, trials):
+        """The driver's reply to the last step of each trial."""
+        calls = [power_up(node, self.identity), SLOT, SLOT, SLOT, KEEP]
+        ends = []
+        for trial in trials:
+            calls.append(TAKE_BACK)
+            for step in trial:
+                calls += [step_call(node, step), SLOT]
+            ends.append(len(calls) - 1)
+        answers = run(calls)
+        booted(node, answers[1:4])
+        return [sdo_reply(node, frame(answers[end])) for end in ends]
+
+    def alter(self, node, step, reply):
+        """The reply, or what a wrong head gives instead."""
+        for pattern, instead in self.altered:
+            if step[:len(pattern)] == pattern:
+                return instead(node, reply) if callable(instead) else instead
+        return reply
+
+    def reads(self, node, keys):
+        """The replies to reads, by key."""
+        keys = list(keys)
+        return dict(zip(keys, self.replies(node, [(("read", key),) for key in keys])))
+
+    def entries(self, node, no_index, no_sub):
+        """The keys of the entries that the head has, by index: whatever it does not refuse with one of the two codes."""
+        if node not in self.scans:
+            first = self.reads(node, range(0, 0x1000000, 0x100))
+            indices = [key >> 8 for key, reply in first.items() if abort_code(reply) != no_index]
+            every = self.reads(node, [index << 8 | sub for index in indices for sub in range(0x100)])
+            self.scans[node] = {index: [] for index in indices}
+            for key, reply in every.items():
+                if abort_code(reply) != no_sub:
+                    self.scans[node][key >> 8].append(key)
+        return self.scans[node]
+
+
+def booted(node, slots):
+    """A fresh head boots up, announces the missing reading, and waits in Pre-operational with nothing more to send."""
+    sent = [frame(slot) for slot in slots]
+    identifiers = [each and each[0] for each in sent]
+    if identifiers != [BOOT_UP + node, EMERGENCY + node, None] or slots[-1][2] != PRE_OPERATIONAL:
+        raise Stopped(f"node {node} does not boot into Pre-operational")
+
+
+def sdo_reply(node, sent):
+    """The bytes of a frame that has to be an SDO reply."""
+    if sent is None or sent[0] != SDO_REPLY + node or len(sent[1]) != 8:
+        raise Stopped(f"node {node} does not reply to a request")
+    return sent[1]
