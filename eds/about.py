@@ -90,9 +90,13 @@ class Comments:
     def ranges(self, entry, node):
         """The numbers that a write accepts, as pairs of the lowest and the highest: as a comment says, else within the limits."""
         if entry.section not in self.accepted:
+            if entry.low is None or entry.high is None:
+                raise Fault(f"neither limits nor [Comments] say what {entry.section} accepts")
             return [(entry.low, entry.high)]
         where = f"[Comments] on {entry.section}"
         ends = [[at_node(end, node, where) for end in part] for part in self.accepted[entry.section]]
+        if any(len(part) > 2 or part[0] > part[-1] for part in ends):
+            raise Fault(f"{where}: not from the lowest to the highest")
         return [(part[0], part[-1]) for part in ends]
 
     def names(self):

@@ -27,7 +27,7 @@ CONDITIONS = {
     "the PDO is off (bit 31 of its sub1 is 1)": lambda entry: (("write", entry.index << 8 | 1, 4, 0x8000_0000),),
 }
 
-# Sentences of the comments, each with trials and the number that the reply to the last step has: a value, an abort code, 0 for "written"
+# Sentences of the comments, each with trials and the number in the reply to the last step: a value, an abort code, or 0 for "written"
 SAMPLE = ("sample", 100)
 RANGE, STEP, PRESET = ("write", 0x6002_00, 4, 1000), ("write", 0x6005_01, 4, 10_000), ("write", 0x6003_00, 4, 40)
 IN_ORDER = (SCALING_ON, RANGE, STEP, SAMPLE, PRESET)
@@ -37,7 +37,7 @@ FACTS = {
         ((SCALING_ON, RANGE, SAMPLE, ("write", 0x6003_00, 4, 999)), 0),
         ((SCALING_ON, RANGE, SAMPLE, ("write", 0x6003_00, 4, 1000)), BAD_VALUE)],
     "While a PDO is on, its sub1 still accepts the number that it holds, and numbers with bit 31 set, which switch it off.": [
-        ((("write", pdo << 8 | 1, 4, number), ("read", pdo << 8 | 1)), number) for pdo in (0x1800, 0x1801) for number in (0x8000_0000, 0x8000_07FF)],
+        ((("write", key, 4, number), ("read", key)), number) for key in (0x1800_01, 0x1801_01) for number in (0x8000_0000, 0x8000_07FF)],
     "The default of 6002 is above its limit: 1048576 holds while scaling is off, and a write of 6000 with bit 2 clear brings it back.": [
         ((SCALING_ON, ("read", 0x6002_00)), 1_000_000),
         ((SCALING_ON, RANGE, ("write", 0x6000_00, 2, 0), ("read", 0x6002_00)), 1_048_576)],
@@ -95,7 +95,8 @@ def existence(objects, head):
             elif index not in listed:
                 yield f"{index:04X}h is not in the data sheet, and node {node} has it"
             elif listed[index] != there[index]:
-                yield f"{index:04X}h: the data sheet and node {node} have other sub-indices"
+                own, other = (" ".join(str(key & 0xFF) for key in keys) for keys in (listed[index], there[index]))
+                yield f"{index:04X}h: sub-indices {own} in the data sheet, {other} in node {node}"
 
 
 def shapes(objects):
@@ -110,13 +111,14 @@ def reads(entries, head, twin, node):
     keys = [entry.key for entry in entries]
     for entry, reply, other in zip(entries, head.reads(node, keys).values(), twin.reads(node, keys).values()):
         code = abort_code(reply)
+        needed = code is None and reply == other
         if code not in (None, BLANK):
             yield f"{name(entry.key)}: node {node} aborts a read with {code:08X}h"
-        elif (code == BLANK or reply != other) != (entry.default is None):
-            yield f"{name(entry.key)}: a default is missing, or has no meaning: node {node} answers {reply.hex(' ')}"
+        elif needed != (entry.default is not None):
+            yield f"{name(entry.key)} {'needs a' if needed else 'has no'} DefaultValue: node {node} answers {reply.hex(' ')}"
         elif code is None and VALUE.get(reply[0]) != entry.width:
             yield f"{name(entry.key)}: node {node} answers a read with another length than that of {entry.type}"
-        elif entry.default and number_of(reply) != at_node(entry.default, node, f"[{entry.section}] DefaultValue"):
+        elif needed and number_of(reply) != at_node(entry.default, node, f"[{entry.section}] DefaultValue"):
             yield f"{name(entry.key)}: DefaultValue is not what node {node} answers, {reply.hex(' ')}"
 
 
@@ -128,19 +130,26 @@ def access(entries, head, node):
             yield f"{name(entry.key)}: AccessType {entry.access}, and node {node} answers a write with {reply.hex(' ')}"
 
 
+def flags(entries):
+    """A download leaves the commands out, and nothing else."""
+    for entry in entries:
+        if entry.flags != (REFUSE_DOWNLOAD if entry.key in COMMANDS else 0):
+            yield f"{name(entry.key)}: ObjFlags is 1 of 1003-0, 1010-1, 1011-1 alone"
+
+
 def limits(entries, comments):
     """A rw entry has limits, the lowest and the highest number that any node accepts; ro entries and signatures have none."""
     for entry in entries:
         limited = entry.access == "rw" and entry.key not in SIGNATURES
         if (entry.low is None) == limited or (entry.high is None) == limited:
-            yield f"{name(entry.key)}: limits are missing, or it has none"
-            continue
-        if (entry.flags == REFUSE_DOWNLOAD) != (entry.key in COMMANDS) or entry.flags > REFUSE_DOWNLOAD:
-            yield f"{name(entry.key)}: ObjFlags is 1 of 1003-0, 1010-1, 1011-1 alone"
-        if limited:
+            yield f"{name(entry.key)} needs {'both limits' if limited else 'no limits'}"
+        elif entry.access == "rw":
             ranges = [each for node in NODES for each in comments.ranges(entry, node)]
-            if (entry.low, entry.high) != (min(low for low, _ in ranges), max(high for _, high in ranges)):
+            lowest, highest = min(low for low, _ in ranges), max(high for _, high in ranges)
+            if limited and (entry.low, entry.high) != (lowest, highest):
                 yield f"{name(entry.key)}: the limits are not the ends of what the comments say"
+            if highest >= 1 << 8 * entry.width:
+                yield f"{name(entry.key)}: {entry.type} has no {highest:#x}"
 
 
 def tried(entry, ranges):
@@ -215,6 +224,7 @@ def differences(objects, comments, head, twin, specification):
         raise Fault(f"[Comments] speak of writes to {', '.join(sorted(strangers))}")
     yield from table(entries, specification)
     yield from shapes(objects)
+    yield from flags(entries)
     yield from existence(objects, head)
     faults = list(limits(entries, comments))
     yield from faults

@@ -1,5 +1,8 @@
 """Breaks that the check has to refuse, each with words of the line that refuses it."""
 
+# An entry that the head has not
+VARIABLE = "ObjectType=0x7\nDataType=0x0006\nAccessType=ro\nDefaultValue=0\nPDOMapping=0"
+
 # Section, text behind its heading, what stands there instead, words of the refusal
 SHEET = [
     ("FileInfo", "FileName=haybleater.eds", "FileName=other.eds", "FileName is not"),
@@ -17,8 +20,10 @@ SHEET = [
     ("Comments", "and $NODEID+0x80000080", "and $NODEID+0x80000081", "1014-0: the limits are not the ends"),
     ("Comments", "0x181..0x57F", "0x181..0x580", "1800-1: node 1 answers a write of 0x580"),
     ("Comments", "accept 1..240,", "accept 1..241,", "1801-2: node 127 answers a write of 0xf1"),
+    ("Comments", "accept 1..240,", "accept 240..1,", "not from the lowest to the highest"),
     ("Comments", "accepts 0, 4, 8 and 12", "accepts 0, 4 and 12", "6000-0: node 1 answers a write of 0x8"),
     ("Comments", "accepts 0x65766173", "accepts 0x65766174", "1010-1: node 1 answers a write of 0x65766174"),
+    ("Comments", "1010sub1 accepts 0x65766173.", "1010sub1 accepts one number", "neither limits nor [Comments] say"),
     ("Comments", "1011sub1 accepts", "1010sub1 accepts", "say two things of 1010sub1"),
     ("Comments", "6002, 6005sub1 can be", "6002 can be", "6005-1: node 1 answers a write of"),
     ("Comments", "6002, 6005sub1 can be", "1017, 6002, 6005sub1 can be", "1017-0: the comments on its state"),
@@ -29,26 +34,29 @@ SHEET = [
     ("OptionalObjects", "2=0x1005\n3=0x1010", "2=0x1010\n3=0x1005", "not in rising order"),
     ("OptionalObjects", "SupportedObjects=22", "SupportedObjects=21", "not used: [6509]"),
     ("OptionalObjects", "SupportedObjects=22", "SupportedObjects=23", "[OptionalObjects] has no 23"),
-    ("ManufacturerObjects", "SupportedObjects=0", "SupportedObjects=1\n1=0x2000\n\n[2000]\nParameterName=Gap\nObjectType=0x7\nDataType=0x0005\n"
-     "AccessType=ro\nDefaultValue=0\nPDOMapping=0", "node 1 has no such index"),
+    ("ManufacturerObjects", "SupportedObjects=0",
+     "SupportedObjects=1\n1=0x2000\n\n[2000]\nParameterName=Gap\n" + VARIABLE, "node 1 has no such index"),
     ("ManufacturerObjects", "SupportedObjects=0", "SupportedObjects=0\n\n[2000]\nParameterName=Gap", "not used: [2000]"),
     ("1000", "DefaultValue=0x00080196", "DefaultValue=0x00020196", "1000-0: DefaultValue"),
     ("1000", "ParameterName=Device type", "ParameterName=Error register", "two objects have one name"),
     ("1003sub0", "ObjFlags=0x1\n", "", "1003-0: ObjFlags"),
-    ("1003sub1", "PDOMapping=0", "DefaultValue=0\nPDOMapping=0", "1003-1: a default is missing, or has no meaning"),
+    ("1003sub1", "PDOMapping=0", "LowLimit=0\nHighLimit=0\nPDOMapping=0", "1003-1 needs no limits"),
+    ("1003sub1", "PDOMapping=0", "DefaultValue=0\nPDOMapping=0", "1003-1 has no DefaultValue"),
     ("1005", "AccessType=ro", "AccessType=rw", "1005-0: U32 rw in the data sheet"),
     ("1005", "AccessType=ro", "AccessType=const", "AccessType: const"),
     ("1014", "DefaultValue=$NODEID+0x80", "DefaultValue=0x81", "1014-0: DefaultValue is not what node 127"),
     ("1014", "LowLimit=0x81", "LowLimit=0x80", "1014-0: the limits are not the ends"),
     ("1015", "DataType=0x0006", "DataType=0x0005", "1015-0: node 1 answers a read with another length"),
-    ("1017", "HighLimit=0xFFFF\n", "", "1017-0: limits are missing"),
+    ("1017", "HighLimit=0xFFFF\n", "", "1017-0 needs both limits"),
     ("1017", "HighLimit=0xFFFF", "HighLimit=0x7FFF", "1017-0: node 1 answers a write of 0x8000"),
+    ("1017", "HighLimit=0xFFFF", "HighLimit=0x10000", "1017-0: U16 has no 0x10000"),
     ("1018", "ObjectType=0x9", "ObjectType=0x8", "1018h has another ObjectType"),
-    ("1018sub4", "PDOMapping=0", "DefaultValue=0x4\nPDOMapping=0", "1018-4: a default is missing, or has no meaning"),
+    ("1018sub4", "PDOMapping=0", "DefaultValue=0x4\nPDOMapping=0", "1018-4 has no DefaultValue"),
     ("1800", "SubNumber=4", "SubNumber=5", "SubNumber is not 4"),
     ("1800sub5", "DefaultValue=100", "DefaultValue=0100", "no number: 0100"),
-    ("1801", "SubNumber=4", "SubNumber=5\n\n[1801sub3]\nParameterName=Inhibit time\nObjectType=0x7\nDataType=0x0006\nAccessType=ro\n"
-     "DefaultValue=0\nPDOMapping=0", "1801h: the data sheet and node 1 have other sub-indices"),
+    ("1801", "SubNumber=4",
+     "SubNumber=5\n\n[1801sub3]\nParameterName=Inhibit time\n" + VARIABLE,
+     "1801h: sub-indices 0 1 2 3 5 in the data sheet, 0 1 2 5 in node 1"),
     ("1801sub1", "$NODEID+0x280", "$NODEID+0x281", "1801-1: DefaultValue"),
     ("1A00sub1", "DefaultValue=0x60040020", "DefaultValue=0x60030020", "1A00-1: DefaultValue"),
     ("6002", "LowLimit=1000", "LowLimit=999", "6002-0: node 1 answers a write of 0x3e7"),
@@ -56,12 +64,13 @@ SHEET = [
     ("6003", "HighLimit=1048575", "HighLimit=1048576", "6003-0: node 1 answers a write of 0x100000"),
     ("6003", "PDOMapping=0", "PDOMapping=1", "PDOMapping is not 1"),
     ("6004", "PDOMapping=1", "PDOMapping=0", "PDOMapping is not 1"),
-    ("6004", "PDOMapping=1", "DefaultValue=0\nPDOMapping=1", "6004-0: a default is missing, or has no meaning"),
+    ("6004", "PDOMapping=1", "DefaultValue=0\nPDOMapping=1", "6004-0 has no DefaultValue"),
     ("6004", "AccessType=ro", "AccessType=ro\nAccessType=ro", "twice in the file: [6004] AccessType"),
     ("6004", "PDOMapping=1", "PDOMapping=1\n\n[6003]", "twice in the file: [6003]"),
     ("6500", "PDOMapping=0", "PDOMapping=0\nUnit=1", "not used: [6500] Unit"),
     ("6500", "ParameterName=Operating", "ParameterName=\xd6perating", "not ASCII"),
     ("6500", "AccessType=ro", "AccessType ro", "neither a section nor a key"),
+    ("6503", "ParameterName=Alarms", "ParameterName=Alarms ; errors", "configparser reads other entries"),
     ("6509", "DataType=0x0004", "DataType=0x0007", "6509-0: U32 ro in the data sheet, S32 ro"),
 ]
 
@@ -75,10 +84,10 @@ def reply(text):
 HEAD = [
     (("read", 0x2000_00), reply("43 00 20 00 00 00 00 00"), "2000h is not in the data sheet, and node 1 has it"),
     (("read", 0x6200_00), reply("80 00 62 00 00 00 02 06"), "6200h is in the data sheet, and node 1 has no such index"),
-    (("read", 0x1801_03), reply("4B 01 18 03 00 00 00 00"), "1801h: the data sheet and node 1 have other sub-indices"),
-    (("read", 0x1018_04), reply("80 18 10 04 11 00 09 06"), "1018h: the data sheet and node 1 have other sub-indices"),
-    (("read", 0x1018_04), reply("43 18 10 04 04 00 00 00"), "1018-4: a default is missing, or has no meaning"),
-    (("read", 0x6004_00), reply("43 04 60 00 00 00 00 00"), "6004-0: a default is missing, or has no meaning"),
+    (("read", 0x1801_03), reply("4B 01 18 03 00 00 00 00"), "1801h: sub-indices 0 1 2 5 in the data sheet, 0 1 2 3 5 in node 1"),
+    (("read", 0x1018_04), reply("80 18 10 04 11 00 09 06"), "1018h: sub-indices 0 1 2 3 4 in the data sheet, 0 1 2 3 in node 1"),
+    (("read", 0x1018_04), reply("43 18 10 04 04 00 00 00"), "1018-4 needs a DefaultValue"),
+    (("read", 0x6004_00), reply("43 04 60 00 00 00 00 00"), "6004-0 needs a DefaultValue"),
     (("read", 0x6509_00), reply("4B 09 65 00 00 00 00 00"), "6509-0: node 1 answers a read with another length"),
     (("read", 0x1014_00), reply("43 14 10 00 81 00 00 00"), "1014-0: DefaultValue is not what node 127"),
     (("read", 0x1A01_01), reply("43 01 1A 01 20 00 03 60"), "PDOMapping is not 1 of exactly what node 1 maps"),

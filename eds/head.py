@@ -4,7 +4,8 @@ import struct
 import subprocess
 
 ROOT = pathlib.Path(__file__).resolve().parent.parent
-DRIVER = ROOT / "target" / "host" / "drive"
+DRIVER = "target/host/drive"
+COMMAND = ["host/run", DRIVER]
 RECORD = 24
 SECONDS = 300
 
@@ -52,15 +53,14 @@ def step_call(node, step):
 
 def run(calls):
     """The driver's answers to the calls."""
-    if not DRIVER.exists():
-        raise Stopped("target/host/drive is missing: run host/build first")
-    command = [ROOT / "host" / "run", DRIVER]
+    if not (ROOT / DRIVER).exists():
+        raise Stopped(f"{DRIVER} is missing: run host/build first")
     try:
-        done = subprocess.run(command, input=b"".join(calls), stdout=subprocess.PIPE, check=True, timeout=SECONDS)
+        done = subprocess.run(COMMAND, cwd=ROOT, input=b"".join(calls), stdout=subprocess.PIPE, check=True, timeout=SECONDS)
     except (OSError, subprocess.SubprocessError) as error:
-        raise Stopped(f"target/host/drive failed: {error}") from None
+        raise Stopped(f"{DRIVER} failed: {error}") from None
     if len(done.stdout) != RECORD * len(calls):
-        raise Stopped("target/host/drive did not answer every call")
+        raise Stopped(f"{DRIVER} did not answer every call")
     return [done.stdout[at:at + RECORD] for at in range(0, len(done.stdout), RECORD)]
 
 
@@ -76,21 +76,30 @@ def abort_code(reply):
 
 
 class Head:
-    """Fresh heads of each node number with one identity. `altered` are replies that a wrong head would give instead."""
+    """Fresh heads of each node number with one identity."""
 
-    def __init__(self, identity, altered=(), known=None):
+    def __init__(self, identity):
         self.identity = identity
-        self.altered = altered
-        self.known = {} if known is None else known
+        self.altered = ()
+        self.known = {}
         self.scans = {}
+
+    def wrong(self, pattern, instead):
+        """A head that gives another reply to the steps that begin with the pattern."""
+        other = Head(self.identity)
+        other.altered = ((pattern, instead),)
+        other.known = self.known
+        if pattern[0] == "write":
+            other.scans = self.scans
+        return other
 
     def replies(self, node, trials):
         """The reply to the last step of each trial, a tuple of steps that a fresh head takes."""
-        known = self.known.setdefault((node, self.identity), {})
+        known = self.known.setdefault(node, {})
         new = [trial for trial in dict.fromkeys(trials) if trial not in known]
         if new:
             known.update(zip(new, self.ask(node, new)))
-        return [self.alter(node, trial[-1], known[trial]) for trial in trials]
+        return [self.alter(trial[-1], known[trial]) for trial in trials]
 
     def ask(self, node, trials):
         """The driver's reply to the last step of each trial."""
@@ -105,11 +114,11 @@ class Head:
         booted(node, answers[1:4])
         return [sdo_reply(node, frame(answers[end])) for end in ends]
 
-    def alter(self, node, step, reply):
+    def alter(self, step, reply):
         """The reply, or what a wrong head gives instead."""
         for pattern, instead in self.altered:
             if step[:len(pattern)] == pattern:
-                return instead(node, reply) if callable(instead) else instead
+                return instead
         return reply
 
     def reads(self, node, keys):

@@ -61,19 +61,22 @@ class Lines:
 
     def add(self, at, line):
         """Adds a line that follows the heading of section `at`; returns the section that the next line is in."""
-        heading = SECTION.fullmatch(line)
-        if heading:
-            at, key, known = heading[1], None, self.sections
-        else:
-            pair = KEY.fullmatch(line)
-            if at is None or pair is None:
-                raise Fault(f"neither a section nor a key with a value: {line}")
-            key, known = pair[1], self.sections[at]
-        if (key or at) in known:
-            raise Fault(f"twice in the file: [{at}] {key or ''}")
-        known[key or at] = pair[2] if key else {}
-        self.unused.add((at, key))
+        if heading := SECTION.fullmatch(line):
+            at = heading[1]
+            self.put(self.sections, at, {}, (at, None))
+            return at
+        pair = KEY.fullmatch(line)
+        if at is None or pair is None:
+            raise Fault(f"neither a section nor a key with a value: {line}")
+        self.put(self.sections[at], pair[1], pair[2], (at, pair[1]))
         return at
+
+    def put(self, known, name, value, place):
+        """Puts a value under a name that has none yet."""
+        if name in known:
+            raise Fault(f"twice in the file: {shown(place)}")
+        known[name] = value
+        self.unused.add(place)
 
     def has(self, section, key=None):
         """Whether the section is there, and the key in it."""
@@ -93,6 +96,12 @@ class Lines:
     def number_if_any(self, section, key):
         """The number of a key that may be absent."""
         return self.number(section, key) if self.has(section, key) else None
+
+
+def shown(place):
+    """A section, or a key in it, as messages name it."""
+    section, key = place
+    return f"[{section}] {key}" if key else f"[{section}]"
 
 
 def lines_of(text):
