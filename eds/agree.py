@@ -27,28 +27,11 @@ CONDITIONS = {
     "the PDO is off (bit 31 of its sub1 is 1)": lambda entry: (("write", entry.index << 8 | 1, 4, 0x8000_0000),),
 }
 
-# Sentences of the comments, each with trials and the number in the reply to the last step: a value, an abort code, or 0 for "written"
+# Steps for the sentences of the comments that hold over several requests
 SAMPLE = ("sample", 100)
 RANGE, STEP, PRESET = ("write", 0x6002_00, 4, 1000), ("write", 0x6005_01, 4, 10_000), ("write", 0x6003_00, 4, 40)
 IN_ORDER = (SCALING_ON, RANGE, STEP, SAMPLE, PRESET)
 READ_PRESET, READ_OFFSET = ("read", 0x6003_00), ("read", 0x6509_00)
-FACTS = {
-    "A write of 6003 has to be below 6002. Its HighLimit is for the highest range.": [
-        ((SCALING_ON, RANGE, SAMPLE, ("write", 0x6003_00, 4, 999)), 0),
-        ((SCALING_ON, RANGE, SAMPLE, ("write", 0x6003_00, 4, 1000)), BAD_VALUE)],
-    "While a PDO is on, its sub1 still accepts the number that it holds, and numbers with bit 31 set, which switch it off.": [
-        ((("write", key, 4, number), ("read", key)), number) for key in (0x1800_01, 0x1801_01) for number in (0x8000_0000, 0x8000_07FF)],
-    "The default of 6002 is above its limit: 1048576 holds while scaling is off, and a write of 6000 with bit 2 clear brings it back.": [
-        ((SCALING_ON, ("read", 0x6002_00)), 1_000_000),
-        ((SCALING_ON, RANGE, ("write", 0x6000_00, 2, 0), ("read", 0x6002_00)), 1_048_576)],
-    "Write 6000 first, then 6002 and 6005sub1, then 6003: each write of the first three sets 6003 and 6509 to 0.": [
-        ((*IN_ORDER, READ_PRESET), 40),
-        ((*IN_ORDER, READ_OFFSET), 0xFFFF_FFF6),
-        *(((*IN_ORDER, again, read), 0) for again in (SCALING_ON, RANGE, STEP) for read in (READ_PRESET, READ_OFFSET))],
-    "6200 is 1800sub5 under a second index: a write of one changes both.": [
-        ((("write", 0x6200_00, 2, 7), ("read", 0x1800_05)), 7),
-        ((("write", 0x1800_05, 2, 7), ("read", 0x6200_00)), 7)],
-}
 
 TABLE_LINE = re.compile(r" +entry 0x([0-9A-F]{4}) ([0-9]+) (U8|U16|U32|S32) (ro|rw) .*")
 
@@ -196,9 +179,33 @@ def states(entries, comments, head, node):
             yield f"{name(entry.key)}: the comments on its state do not fit node {node}: it answers a write with {reply.hex(' ')}"
 
 
+def sentences(node):
+    """Sentences of the comments, each with trials and the number in the reply to the last step: a value, an abort code, or 0 for "written"."""
+    identifiers = [(key, number) for key, held in ((0x1800_01, 0x180 + node), (0x1801_01, 0x280 + node))
+                   for number in (held, 0x8000_0000, 0x8000_07FF)]
+    return {
+        "A write of 6003 has to be below 6002. Its HighLimit is for the highest range.": [
+            ((SCALING_ON, RANGE, SAMPLE, ("write", 0x6003_00, 4, 999)), 0),
+            ((SCALING_ON, RANGE, SAMPLE, ("write", 0x6003_00, 4, 1000)), BAD_VALUE)],
+        "While a PDO is on, its sub1 still accepts the number that it holds, and numbers with bit 31 set, which switch it off.": [
+            trial for key, number in identifiers
+            for trial in (((("write", key, 4, number),), 0), ((("write", key, 4, number), ("read", key)), number))],
+        "The default of 6002 is above its limit: 1048576 holds while scaling is off, and a write of 6000 with bit 2 clear brings it back.": [
+            ((SCALING_ON, ("read", 0x6002_00)), 1_000_000),
+            ((SCALING_ON, RANGE, ("write", 0x6000_00, 2, 0), ("read", 0x6002_00)), 1_048_576)],
+        "Write 6000 first, then 6002 and 6005sub1, then 6003: each write of the first three sets 6003 and 6509 to 0.": [
+            ((*IN_ORDER, READ_PRESET), 40),
+            ((*IN_ORDER, READ_OFFSET), 0xFFFF_FFF6),
+            *(((*IN_ORDER, again, read), 0) for again in (SCALING_ON, RANGE, STEP) for read in (READ_PRESET, READ_OFFSET))],
+        "6200 is 1800sub5 under a second index: a write of one changes both.": [
+            ((("write", 0x6200_00, 2, 7), ("read", 0x1800_05)), 7),
+            ((("write", 0x1800_05, 2, 7), ("read", 0x6200_00)), 7)],
+    }
+
+
 def facts(comments, head, node):
-    """The sentences that only hold over several requests stand in the comments, and hold."""
-    for sentence, trials in FACTS.items():
+    """Those sentences stand in the comments, and hold."""
+    for sentence, trials in sentences(node).items():
         if sentence not in comments.sentences:
             yield f"[Comments] do not say: {sentence}"
         replies = head.replies(node, [trial for trial, _ in trials])

@@ -96,6 +96,7 @@ HEAD = [
     (("write", 0x6002_00, 4, 999), reply("60 02 60 00 00 00 00 00"), "6002-0: node 1 answers a write of 0x3e7"),
     (("write", 0x6002_00, 4, 1_000_000), reply("80 02 60 00 30 00 09 06"), "6002-0: node 1 answers a write of 0xf4240"),
     (("write", 0x6003_00, 4, 1000), reply("60 03 60 00 00 00 00 00"), "against: A write of 6003 has to be below 6002"),
+    (("write", 0x1800_01, 4, 0x181), reply("80 00 18 01 22 00 00 08"), "against: While a PDO is on, its sub1 still accepts"),
     (("write", 0x1800_02, 1, 253), reply("60 00 18 02 00 00 00 00"), "1800-2: node 1 answers a write of 0xfd"),
     (("write", 0x1800_02, 1, 0), reply("80 00 18 02 22 00 00 08"), "1800-2: node 1 answers a write of 0x0"),
     (("write", 0x1800_02, 1, 240), reply("60 00 18 02 00 00 00 00"), "1800-2: the comments on its state"),
