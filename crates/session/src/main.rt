@@ -1,4 +1,4 @@
-//! The session program: standard input to standard output, nothing else.
+//! The session program: standard input to standard output; a read or a write that fails is reported on standard error.
 ghost use Prim.Native.Nat.{_≤_};
 ghost use lib.ListN.{length};
 ghost use Rattle.promises.specs.Valid.{Valid};
@@ -23,7 +23,7 @@ fn turn(session: Session, out: &mut [u8]) -> After
     let mut input = io::buffer();
     let got = libc::read(STDIN_FILENO, &mut input);
     if got <= 0 {
-        finish(session);
+        finish(session, got < 0);
         return After {
             more: false,
             session,
@@ -32,7 +32,7 @@ fn turn(session: Session, out: &mut [u8]) -> After
     let count = io::count(got, &input);
     let done = feeding::chunk(session, &input[..count], out);
     let len = done.len;
-    let more = io::write_all(STDOUT_FILENO, &out[..len]);
+    let more = print(&out[..len]);
     let next = done.session;
     After {
         more,
@@ -40,14 +40,27 @@ fn turn(session: Session, out: &mut [u8]) -> After
     }
 }
 
-// The end of the input ends a last line.
-fn finish(session: Session)
+// The end of the input ends a last line. A read that failed is no end: it is reported, and what came of that line is dropped.
+fn finish(session: Session, read_failed: bool)
     requires { ⌜ Valid (session .head) ⌝ }
 {
+    if read_failed {
+        os::fail(b"session: cannot read");
+        return;
+    }
     let text = feeding::close(session);
     let count = lines::kept(text);
     let bytes = text.bytes;
-    io::write_all(STDOUT_FILENO, &bytes[..count]);
+    print(&bytes[..count]);
+}
+
+// Answers whether all was written. What was not is reported: the program has no exit status to say it with.
+fn print(bytes: &[u8]) -> bool {
+    let written = io::write_all(STDOUT_FILENO, bytes);
+    if !written {
+        os::fail(b"session: cannot write");
+    }
+    written
 }
 
 // A proved loop ends, and nothing says that the input does: the turns are counted down from a number that no run uses up.

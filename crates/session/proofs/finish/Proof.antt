@@ -3,6 +3,15 @@ use borrow.Author.Needs.{needs}
 use Rattle.session.proofs.finish.Statement.{statement}
 use Rattle.session.proofs.finish.Tie as tie
 
+slice-aggregate-fail : tie.Need-slice-aggregate-fail
+slice-aggregate-fail c = search needs
+
+fail-requires : tie.Need-fail-requires
+fail-requires c κs = search needs
+
+returns : tie.Need-returns
+returns c = search needs
+
 close-requires : tie.Need-close-requires
 close-requires c κs = search needs
 
@@ -12,22 +21,25 @@ kept-requires c κs = search needs
 array-share-prefix-bytes : tie.Need-array-share-prefix-bytes
 array-share-prefix-bytes c = search (share, needs)
 
-slice-aggregate-write-all : tie.Need-slice-aggregate-write-all
-slice-aggregate-write-all c = search (shared, needs)
+slice-aggregate-print : tie.Need-slice-aggregate-print
+slice-aggregate-print c = search (shared, needs)
 
-write-all-requires : tie.Need-write-all-requires
-write-all-requires c κs = search needs
+print-requires : tie.Need-print-requires
+print-requires c κs = search needs
 
-returns : tie.Need-returns
-returns c = search needs
+returns-2 : tie.Need-returns-2
+returns-2 c = search needs
 
 pub finish-spec : {M : Type 1} → statement M
 finish-spec =
     tie.close
     (tie.spec
+    slice-aggregate-fail
+    fail-requires
+    returns
     close-requires
     kept-requires
     array-share-prefix-bytes
-    slice-aggregate-write-all
-    write-all-requires
-    returns)
+    slice-aggregate-print
+    print-requires
+    returns-2)

@@ -33,14 +33,14 @@ slice-aggregate-chunk c = search needs
 chunk-requires : tie.Need-chunk-requires
 chunk-requires c κs = search needs
 
-slice-reshare-prefix-write-all : tie.Need-slice-reshare-prefix-write-all
-slice-reshare-prefix-write-all c = search (chunk-share, needs)
+slice-reshare-prefix-print : tie.Need-slice-reshare-prefix-print
+slice-reshare-prefix-print c = search (chunk-share, needs)
 
-slice-aggregate-write-all : tie.Need-slice-aggregate-write-all
-slice-aggregate-write-all c = search (chunk-shared, needs)
+slice-aggregate-print : tie.Need-slice-aggregate-print
+slice-aggregate-print c = search (chunk-shared, needs)
 
-write-all-requires : tie.Need-write-all-requires
-write-all-requires c κs = search needs
+print-requires : tie.Need-print-requires
+print-requires c κs = search needs
 
 same-length : tie.Need-same-length
 same-length c = search needs
@@ -62,8 +62,8 @@ turn-spec =
     array-share-prefix-input
     slice-aggregate-chunk
     chunk-requires
-    slice-reshare-prefix-write-all
-    slice-aggregate-write-all
-    write-all-requires
+    slice-reshare-prefix-print
+    slice-aggregate-print
+    print-requires
     same-length
     returns-2)
