@@ -1,12 +1,14 @@
 /*
- * A host with the head of node 1, which plays the master of the bus too: 130 ms, of which the tape is lost for 50.
- * A line is the time in ms and the frame that the head sends then: identifier, length, bytes. `--` says what happened.
+ * A host with the head of node 1, which plays the rest of the bus too: 130 ms, of which the tape is lost for 50.
+ * A line is the time in ms and the frame that goes out on the bus then: identifier, length, bytes. `--` says what happened.
+ * The CAN controller is a model with one mailbox. Other nodes keep the bus busy from 42 ms to 48 ms, and the tape is lost
+ * at 45 ms: the position frame of 43 ms is still in the mailbox then, and the host withdraws it.
  */
 #include "haybleater.h"
 
 #include <stdio.h>
 
-enum { END_MS = 130, LOST_FROM_MS = 45, LOST_UNTIL_MS = 95 };
+enum { END_MS = 130, LOST_FROM_MS = 45, LOST_UNTIL_MS = 95, BUSY_FROM_MS = 42, BUSY_UNTIL_MS = 48 };
 
 /* What the master sends, and when. Of the requests, bytes that are not given are 0. */
 static const struct {
@@ -32,12 +34,37 @@ static void show(uint32_t now_ms, haybleater_frame frame)
     printf("\n");
 }
 
+/* The CAN controller: the frame in its mailbox is pending until the bus is free. */
+static struct {
+    bool pending;
+    haybleater_frame frame;
+} controller;
+
+static void run_bus(uint32_t now_ms)
+{
+    bool busy = BUSY_FROM_MS <= now_ms && now_ms < BUSY_UNTIL_MS;
+    if (busy || !controller.pending)
+        return;
+    show(now_ms, controller.frame);
+    controller.pending = false;
+}
+
+/* A position frame that is pending would go out in the gap: it is withdrawn before the missing sample is lent. */
+static void lose_position(haybleater_head *head, uint32_t now_ms)
+{
+    if (controller.pending && haybleater_is_position(controller.frame.identifier)) {
+        controller.pending = false;
+        printf("%3u  -- withdrawn: %03X\n", (unsigned)now_ms, (unsigned)controller.frame.identifier);
+    }
+    haybleater_missing(head);
+}
+
 /* The sensor: the tape moves by 10 steps each ms. A number that the head refuses is no position either. */
 static void take_sample(haybleater_head *head, uint32_t now_ms)
 {
     bool on_tape = now_ms < LOST_FROM_MS || LOST_UNTIL_MS <= now_ms;
     if (!on_tape || haybleater_sample(head, 69637 + 10 * now_ms) != HAYBLEATER_NO_REFUSAL)
-        haybleater_missing(head);
+        lose_position(head, now_ms);
 }
 
 /* What the host itself knows of the position: a gap is told as a gap, never as 0. */
@@ -61,11 +88,17 @@ static void receive_all(haybleater_head *head, uint32_t now_ms)
     }
 }
 
-/* A CAN controller that can always take a frame; one that cannot is asked first, and the frame waits in the head. */
+/* One frame at a time: a slot is asked for only while no frame is pending. The others wait in the head. */
 static void send_all(haybleater_head *head, uint32_t now_ms)
 {
-    for (haybleater_outgoing outgoing = haybleater_slot(head); outgoing.waited; outgoing = haybleater_slot(head))
-        show(now_ms, outgoing.frame);
+    run_bus(now_ms);
+    while (!controller.pending && haybleater_waits(head)) {
+        controller.frame = haybleater_slot(head).frame;
+        controller.pending = true;
+        run_bus(now_ms);
+        if (controller.pending)
+            printf("%3u  -- pending, the bus is busy: %03X\n", (unsigned)now_ms, (unsigned)controller.frame.identifier);
+    }
 }
 
 int main(void)

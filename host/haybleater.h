@@ -3,23 +3,37 @@
  *
  * The host keeps the head in its own memory and lends it for each call. What it owes:
  *   - haybleater_power_up first, and no other call on that memory before it;
- *   - haybleater_receive for every frame that its CAN controller receives, whoever it is meant for;
+ *   - haybleater_receive for every frame that its CAN controller receives. An acceptance filter may drop all but 000h (NMT),
+ *     080h (SYNC) and 600h+N (SDO requests): the head hears nothing else;
  *   - haybleater_tick once each millisecond;
  *   - haybleater_sample or haybleater_missing for each sample of the sensor;
- *   - haybleater_slot whenever its CAN controller can take a frame; it sends `frame` exactly if `waited`.
+ *   - haybleater_slot when its CAN controller holds no frame of the head; it sends `frame` exactly if `waited`.
  *
  * Blank is not zero. Before the first sample and after haybleater_missing there is no position: no position frame is
  * sent, entry 6004h aborts with 0800 0024h, and haybleater_position answers `known` false. The 0 beside it is no position.
  *
+ * Frames in flight. What is proved ends at haybleater_slot: a frame that waits in a mailbox of the CAN controller has left
+ * the head. So that a gap arrives as a gap on the wire too, the host owes two things more:
+ *   - one frame at a time: it asks for a slot only when no frame of the head is pending in the controller. Two mailboxes
+ *     may swap their frames: "missing" and "good" then arrive in the wrong order, and a heartbeat is held back;
+ *   - before it calls haybleater_missing, also because a sample was refused, it aborts the pending frame in the controller
+ *     if that is a position frame (haybleater_is_position).
+ * The abort has to be in effect before haybleater_missing is called. A frame whose transmission has begun cannot be
+ * withdrawn: it was begun before the missing sample, and the abort keeps the controller from repeating it after an error.
+ *
  * What is proved: for every argument, refused ones too, a call's answer and the head that it leaves are determined by its
  * contract in crates/lent/src/lib.rt; each call ends, and leaves a head that every call can be made with.
  * It is proved of the source. The compiler that makes the archive is trusted; that C and the archive agree on the layout is
- * tested, by the checks below and by host/layout.c.
+ * tested, by the checks below and by host/layout.c. That a host which does the duties above sends no position in a gap is
+ * tested too, with a model of a CAN controller: host/board.c.
  * What the caller has to see to:
  *   - the pointer is to a haybleater_head, aligned as the type asks, that haybleater_power_up made and calls altered;
- *   - nobody else reads or writes that head during a call: one thread at a time, and no interrupt in between;
+ *   - nobody else reads or writes that head during a call: one thread at a time, and no interrupt in between. An interrupt
+ *     queues received frames and samples, counts milliseconds and notes that a mailbox is empty; one loop makes the calls;
  *   - a bool holds 0 or 1, as every C bool does that was not written byte by byte.
  * No call blocks, allocates or keeps the pointer, and none has state of its own: heads do not know of each other.
+ * "save" (1010-1) keeps the saved set in the head, for the resets 81h and 82h. It does not outlast power-off: power-up makes
+ * a head with factory settings, and no call hands the saved set out.
  */
 #ifndef HAYBLEATER_H
 #define HAYBLEATER_H
@@ -67,7 +81,10 @@ typedef struct {
     haybleater_identity identity;
 } haybleater_setup;
 
-/* A frame as the CAN controller received it. Bytes from `length` on are ignored. */
+/*
+ * A frame as the CAN controller received it. Bytes from `length` on are ignored. On the bus a DLC of 9 to 15 means 8 bytes:
+ * the host sets `length` to 8 then, or haybleater_receive refuses the frame with HAYBLEATER_BAD_LENGTH.
+ */
 typedef struct {
     uint8_t bytes[8];
     uint32_t identifier;
@@ -95,6 +112,19 @@ typedef struct {
     uint32_t position;
 } haybleater_located;
 
+/* The identifiers of the position frames, TPDO1 and TPDO2, whatever entries 1800-1 and 1801-1 are set to. */
+#define HAYBLEATER_FIRST_POSITION 0x181
+#define HAYBLEATER_LAST_POSITION 0x57F
+
+/*
+ * Whether a frame of the head is a position frame, by its identifier: no other frame of the head has one of these. It is
+ * proved of every head: Gap.known in crates/promises. A host asks it of the frame that its CAN controller still holds.
+ */
+static inline bool haybleater_is_position(uint32_t identifier)
+{
+    return HAYBLEATER_FIRST_POSITION <= identifier && identifier <= HAYBLEATER_LAST_POSITION;
+}
+
 /*
  * Makes a head: in Initialising, with factory settings, the saved set equal to them, the reading missing, and the boot-up
  * frame waiting. The memory may hold anything before: it is not read.
@@ -115,14 +145,21 @@ void haybleater_tick(haybleater_head *head);
 
 /*
  * The sensor gave a raw position, in steps of 5,000 nm. Refuses one above 1,048,575 with HAYBLEATER_BAD_SAMPLE: the head
- * is unchanged, so the sample before still holds. A host to which such a number means "off the tape" calls haybleater_missing.
+ * is unchanged, so the sample before still holds. A host to which such a number means "off the tape" calls haybleater_missing,
+ * and aborts a pending position frame before.
  */
 uint8_t haybleater_sample(haybleater_head *head, uint32_t raw);
 
-/* The sensor gave no position. Position frames that wait are withdrawn. */
+/*
+ * The sensor gave no position. Position frames that wait in the head are withdrawn; the host aborts the one that is pending
+ * in its CAN controller before this call.
+ */
 void haybleater_missing(haybleater_head *head);
 
-/* A frame can be sent: answers the first that waits and takes it from the waiting line, or none exactly if none waits. */
+/*
+ * A frame can be sent: answers the first that waits and takes it from the waiting line, or none exactly if none waits.
+ * To be called only when no frame of the head is pending in the CAN controller.
+ */
 haybleater_outgoing haybleater_slot(haybleater_head *head);
 
 /* The NMT state, one of the four codes above. */
