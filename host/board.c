@@ -21,12 +21,29 @@ enum {
     LEAST_FRAME_STEPS = 3, /* of the bus, which makes a step in each call of the board */
     MORE_FRAME_STEPS = 12,
     ERRORS_IN_100 = 5,
-    REQUESTS_IN_100 = 60,
-    SYNCS_IN_100 = 20,
+    RECEIVED_IN_100 = 90,
+    SYNCS_IN_100 = 30,
     REFUSED_IN_100 = 30,
     OUT_OF_RANGE = 1048576,
     EMERGENCY = 0x081,
+    POSITION_LENGTH = 4, /* of no other frame of the head */
+    STARTED_MS = 101,
 };
+
+#define REQUEST(...) {.identifier = 0x601, .length = 8, .bytes = {__VA_ARGS__}}
+
+/* How the master starts the head: position frames and heartbeat often, with the lowest and the highest identifier there is. */
+static const struct {
+    uint32_t at_ms;
+    haybleater_received frame;
+} starting[] = {
+    {20, REQUEST(0x2B, 0x17, 0x10, 0x00, 10)},                     /* 1017h: heartbeat each 10 ms */
+    {40, REQUEST(0x2B, 0x00, 0x18, 0x05, 1)},                      /* 1800-5: TPDO1, 181h, each ms */
+    {60, REQUEST(0x23, 0x01, 0x18, 0x01, 0x7F, 0x05, 0x00, 0x80)}, /* 1801-1: TPDO2 off, 57Fh */
+    {80, REQUEST(0x23, 0x01, 0x18, 0x01, 0x7F, 0x05, 0x00, 0x00)}, /* 1801-1: TPDO2 on, at each SYNC */
+    {100, {.identifier = 0x000, .length = 2, .bytes = {0x01, 0x01}}},
+};
+static const haybleater_received read_position = REQUEST(0x40, 0x04, 0x60, 0x00), sync = {.identifier = 0x080};
 
 typedef struct {
     haybleater_frame frame;
@@ -66,7 +83,7 @@ static void count_begun(const mailbox *box)
             break;
         }
     }
-    if (!haybleater_is_position(box->frame.identifier))
+    if (box->frame.length != POSITION_LENGTH)
         return;
     counts.positions++;
     counts.late += missing;
@@ -194,31 +211,18 @@ bool board_sampled(uint32_t *raw, bool *on_tape)
     return true;
 }
 
-/* The master starts the head with heartbeat and TPDO1 as often as it can, then asks for the position and sends SYNCs. */
+/* Once the head is started, the master floods it. */
 bool board_can_received(haybleater_received *frame)
 {
-    static const haybleater_received heartbeat = {.identifier = 0x601, .length = 8, .bytes = {0x2B, 0x17, 0x10, 0x00, 10}},
-                                     period = {.identifier = 0x601, .length = 8, .bytes = {0x2B, 0x00, 0x18, 0x05, 1}},
-                                     start_node = {.identifier = 0x000, .length = 2, .bytes = {0x01, 0x01}},
-                                     position = {.identifier = 0x601, .length = 8, .bytes = {0x40, 0x04, 0x60, 0x00}},
-                                     sync = {.identifier = 0x080};
-    enum { HEARTBEAT_MS = 20, PERIOD_MS = 50, START_MS = 80 };
     step();
-    if (now_ms == HEARTBEAT_MS)
-        *frame = heartbeat;
-    else if (now_ms == PERIOD_MS)
-        *frame = period;
-    else if (now_ms == START_MS)
-        *frame = start_node;
-    else if (now_ms < START_MS)
-        return false;
-    else if (in_100(REQUESTS_IN_100))
-        *frame = position;
-    else if (in_100(SYNCS_IN_100))
-        *frame = sync;
-    else
-        return false;
-    return true;
+    for (size_t i = 0; i < sizeof starting / sizeof starting[0]; i++) {
+        if (starting[i].at_ms != now_ms)
+            continue;
+        *frame = starting[i].frame;
+        return true;
+    }
+    *frame = in_100(SYNCS_IN_100) ? sync : read_position;
+    return now_ms >= STARTED_MS && in_100(RECEIVED_IN_100);
 }
 
 bool board_can_has_room(void)
