@@ -5,6 +5,7 @@
  *   positions   position frames whose transmission began
  *   late        of these, after a missing sample and before the next good one
  *   overtaken   frames of the head that began while one handed over earlier was still waiting
+ *   lost        other frames than these that the host aborted
  *   gaps        how often the tape was lost; in `reported` of them the emergency "missing" was sent before the tape was found,
  *               and after `resumed` of them a position was sent before the tape was lost again
  */
@@ -32,7 +33,7 @@ enum {
 
 #define REQUEST(...) {.identifier = 0x601, .length = 8, .bytes = {__VA_ARGS__}}
 
-/* How the master starts the head: position frames and heartbeat often, with the lowest and the highest identifier there is. */
+/* How the master starts the head: heartbeat and position frames come often, these with the lowest and the highest identifier. */
 static const struct {
     uint32_t at_ms;
     haybleater_received frame;
@@ -55,14 +56,14 @@ static mailbox boxes[MOST_MAILBOXES];
 static unsigned mailboxes, handed;
 
 /* Steps until the transmission on the bus ends, and which mailbox it is of; MOST_MAILBOXES: of another node. */
-static unsigned steps_left, on_bus;
+static unsigned steps_left, on_bus = MOST_MAILBOXES;
 
 /* The sensor, and what the host was told of it: `missing` from when it has lent the missing sample. */
 static uint32_t now_ms, phase_left_ms;
 static bool ms_is_new, sample_is_new, off_tape, told_missing, missing;
 
 static struct {
-    unsigned positions, late, overtaken, gaps, reported, resumed;
+    unsigned positions, late, overtaken, lost, gaps, reported, resumed;
 } counts;
 static bool gap_reported, positions_resumed;
 
@@ -148,8 +149,8 @@ static void step(void)
 
 static void finish(void)
 {
-    printf("mailboxes=%u positions=%u late=%u overtaken=%u gaps=%u reported=%u resumed=%u\n", mailboxes, counts.positions,
-           counts.late, counts.overtaken, counts.gaps, counts.reported, counts.resumed);
+    printf("mailboxes=%u positions=%u late=%u overtaken=%u lost=%u gaps=%u reported=%u resumed=%u\n", mailboxes,
+           counts.positions, counts.late, counts.overtaken, counts.lost, counts.gaps, counts.reported, counts.resumed);
     exit(0);
 }
 
@@ -262,6 +263,7 @@ void board_can_abort(void)
 {
     step_bus();
     for (unsigned i = 0; i < mailboxes; i++) {
+        counts.lost += boxes[i].held && boxes[i].frame.length != POSITION_LENGTH;
         boxes[i].aborted = boxes[i].held;
         boxes[i].held = boxes[i].begun;
     }
