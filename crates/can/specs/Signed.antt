@@ -1,5 +1,5 @@
--- Signed numbers in 32 bits, two's complement: the offset, entry 6509-0, is an S32.
--- `Signs` says what the bits are, and that nothing is lost on the way there or back.
+-- Signed numbers in 32 bits, two's complement: the offset, entry 6509-0, is an S32. 01, chapter "Entries".
+-- `Signs` states what the bits are, and that converting there and back loses nothing.
 use Prim.Native.Nat.{ℕ, suc, _+_, _-_, _≤_, _<_}
 use mathlib.Core.Path.{_≡_}
 use mathlib.Core.Bool.{cond}

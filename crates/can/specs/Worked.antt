@@ -1,4 +1,5 @@
--- 01's own numbers, worked out: refused and accepted frames of its table, bytes of its worked numbers P1, P4, P7, P10.
+-- Examples: refused and accepted frames of 01's chapter "Refusal numbers", and bytes of P1, P4, P7 and P10 of chapter "Worked
+-- numbers".
 use Prim.Native.Nat.{ℕ}
 use mathlib.Core.Path.{_≡_}
 use mathlib.Core.Bool.{Bool, true, false}

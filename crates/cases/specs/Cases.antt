@@ -1,4 +1,5 @@
--- A choice by a test is the library's `cond`. This is a choice by several, as 01 has it in "First that applies".
+-- `firstOf`: a choice by several tests, the first that passes. 01 uses it in "First that applies", chapter "Service requests". A
+-- choice by one test is the library's `cond`.
 use mathlib.Core.Bool.{Bool, cond}
 use mathlib.Core.List.{List, [], _∷_}
 

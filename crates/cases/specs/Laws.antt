@@ -1,4 +1,4 @@
--- What the shared definitions come to, in plain terms.
+-- Laws of the shared definitions, in plain numbers.
 use Prim.Native.Nat.{ℕ, _<_, _≤_}
 use mathlib.Core.Path.{_≡_}
 use mathlib.Core.Logic.{_↔_}

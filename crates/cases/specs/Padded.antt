@@ -1,4 +1,5 @@
--- A list in so many places, as arrays hold it.
+-- A list in a fixed number of places, as an array holds it: the waiting line, the bytes of a frame, a line of the session
+-- program.
 use Prim.Native.Nat.{ℕ, zero, suc}
 use mathlib.Core.List.{List, [], _∷_}
 

@@ -1,5 +1,5 @@
--- Which values an rw entry accepts, which code another gets, and what cannot be written for the state, in plain numbers: these judge
--- specs/Accepted and name none of its tests. 01, chapter "Entries", and steps 5 and 6 of "First that applies".
+-- Which values an rw entry accepts, which abort code any other value gets, and which writes the state forbids, in plain numbers.
+-- These laws check specs/Accepted and use none of its tests. 01, chapter "Entries", and steps 5 and 6 of "First that applies".
 use Prim.Native.Nat.{ℕ, _+_, _/_, _%_, _^_, _≤_, _<_}
 use mathlib.Core.Path.{_≡_}
 use mathlib.Core.Logic.{_↔_, _⊎_}

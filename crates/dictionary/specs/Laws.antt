@@ -1,4 +1,4 @@
--- What holds of every device and every entry: of the factory settings, of an accepted write, of the numbers that are read.
+-- Laws for every device and every entry: the factory settings, accepted writes, and the numbers that entries read.
 -- 01, chapter "Entries".
 use Prim.Native.Nat.{ℕ, _^_, _≤_, _<_}
 use lib.ListN.{length, getD}

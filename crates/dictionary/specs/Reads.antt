@@ -1,4 +1,4 @@
--- What an entry reads, blank or its number: 01's chapter "Entries".
+-- What an entry reads: blank, or a number. 01, chapter "Entries".
 use Prim.Native.Nat.{ℕ}
 use lib.ListN.{getD}
 use mathlib.Core.Bool.{Bool, false, cond}

@@ -1,4 +1,4 @@
--- What a valid device holds, in plain numbers: these judge specs/Valid and crate position's valid profile.
+-- What a valid device holds, in plain numbers. These laws check specs/Valid and the valid profile of crate position.
 -- 01, chapters "Entries", "Position" and "Refusal numbers".
 use Prim.Native.Nat.{ℕ, _≤_, _<_}
 use lib.IntN.{natAbs}

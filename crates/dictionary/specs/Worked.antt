@@ -1,4 +1,4 @@
--- 01's own numbers, worked out at node 1 with factory settings: what entries read, which writes are aborted, and what writes do.
+-- Examples at node 1 with factory settings: what entries read, which writes are aborted, and what writes do.
 -- 01, chapters "Worked numbers", "Entries", "Position" and "Service requests".
 use Prim.Native.Nat.{ℕ, _^_}
 use lib.Dec.{eqb, ltb}

@@ -1,4 +1,4 @@
--- What an accepted write does: 01's chapters "Entries" and "Position". Each field names the entries that alter it.
+-- What an accepted write does: 01, chapters "Entries" and "Position". Each field names the entries that change it.
 use Prim.Native.Nat.{ℕ, _<_}
 use lib.Dec.{eqb}
 use lib.IntN.{pos}

@@ -1,4 +1,4 @@
--- The entries that definitions name, each by its key; 01's chapter "Entries". What judges a definition has the number itself.
+-- The keys of the entries that definitions name: 01, chapter "Entries". Laws that check a definition use the number itself.
 use Prim.Native.Nat.{ℕ}
 use Rattle.entries.specs.Table.{keyOf}
 

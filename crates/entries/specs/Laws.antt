@@ -1,4 +1,4 @@
--- What holds of the table and of every index and sub-index: its order, and what is found.
+-- Laws of the table: its order, and what is found for every index and sub-index.
 -- 01, chapter "Entries".
 use Prim.Native.Nat.{ℕ, _+_, _*_, _<_}
 use lib.Dec.{ltb}

@@ -1,4 +1,4 @@
--- The factory settings of 01's table "Entries".
+-- The factory settings: 01, chapter "Entries".
 use Prim.Native.Nat.{ℕ, _+_}
 use lib.IntN.{pos}
 use Rattle.position.specs.Profile.{fullRange}

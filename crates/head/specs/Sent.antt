@@ -1,4 +1,5 @@
--- A head with the parts that a slot alters, by its way. Nobody has to believe it: crate steps proves that it is what `promises` says.
+-- The head after a slot, for each way that a slot can go. Reviewers can skip this file: it follows the code, and crate steps
+-- proves that these heads are what `promises` says. 01, chapter "The waiting line".
 use Prim.Native.Nat.{ℕ}
 use lib.Dec.{eqb}
 use mathlib.Core.Bool.{cond}

@@ -1,4 +1,4 @@
--- What a write to 6000h to 6005h asks of its value: that its entry accepts it.
+-- What a write to 6000h..6005h requires: that its entry accepts the value. 01, chapter "Entries".
 use mathlib.Core.Path.{_≡_}
 use Rattle.position.specs.Profile.{ValidProfile}
 use Rattle.dictionary.specs.Writes.{Fits}

@@ -1,4 +1,4 @@
--- What a host may ask of the head that it keeps, without altering it.
+-- What a host may ask about the head that it keeps, without changing it. 01, chapter "The head and its neighbours".
 use Prim.Native.Nat.{ℕ}
 use mathlib.Core.Bool.{Bool, true, false}
 use mathlib.Core.Option.{Option, none, some}

@@ -1,4 +1,5 @@
--- What a slot answers by value, of what the lent call answers and the head that it leaves.
+-- The answer of a slot by value, made from the answer of the lent call and the head that it leaves. 01, chapter "The head and its
+-- neighbours".
 use Rattle.parts.specs.declared.Head.{Head}
 use Rattle.parts.specs.declared.Sent.{Sent}
 use Rattle.steps.specs.declared.slot.Outgoing.{Outgoing}

@@ -1,4 +1,5 @@
--- What a command orders a head to do in its state. "Others have no effect, nor does a command naming the present state."
+-- What a command orders in the state that a head is in: 01, chapter "States". "Others have no effect, nor does a command naming
+-- the present state."
 use lib.Dec.{eqb}
 use mathlib.Core.Bool.{true, false, cond}
 use Rattle.parts.specs.declared.Nmt.{Nmt}

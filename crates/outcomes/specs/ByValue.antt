@@ -1,5 +1,6 @@
--- "The same behaviour is also wanted of a head passed by value": the contracts of `head` promise what those of `lent` do (`LentOutcomes`).
--- 01's chapter "The head and its neighbours".
+-- "The same behaviour is also wanted of a head passed by value": the contracts of `head` promise the same as those of `lent`
+-- (`LentOutcomes`).
+-- 01, chapter "The head and its neighbours".
 use Rattle.parts.specs.declared.Sensor.the-variants.{Missing, Raw}
 use Rattle.promises.specs.Calls.{answered}
 use Rattle.promises.specs.Promised.{PowersUp, Receives, Ticks, Samples, Slots}

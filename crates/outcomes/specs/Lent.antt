@@ -1,5 +1,6 @@
--- A head that a host lends is one of those that the demands are about: power-up makes one, and the head that a call leaves is `step h c`. The
--- contracts of `lent` promise what stands here left of the last arrow, as `Outcomes` shows.
+-- The demands hold for a head that a host lends: power-up makes such a head, and each call leaves the head `step h c`. What
+-- stands left of the last arrow in each field is what the contracts of `lent` promise, as `Outcomes` shows. 01, chapter "The head
+-- and its neighbours".
 use Prim.Native.Nat.{ℕ}
 use mathlib.Core.Path.{_≡_}
 use Rattle.can.specs.declared.Received.{Received}

@@ -1,5 +1,5 @@
--- `Outcomes`: each public function of every crate, from below upwards, leaves one outcome.
--- docs/PROMISES.md lists what has no such theorem, and why.
+-- `Outcomes`: the contract of each public function allows one outcome. All crates are here, the lowest first. docs/PROMISES.md
+-- lists what has no such theorem, and why. 01, chapter "Strength of the promises".
 use denote.Ref.{now}
 use mathlib.Core.Path.{_≡_}
 use Rattle.parts.specs.declared.Sensor.the-variants.{Missing, Raw}

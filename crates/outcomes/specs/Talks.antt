@@ -1,4 +1,5 @@
--- The session's calls promise what `Program` of crate transcript prints the whole of: standard input to output. 01's chapter "Worked numbers".
+-- The contracts of the session's calls promise what `Program` of crate transcript builds on: from standard input to the whole
+-- output. 01, chapter "Worked numbers", "Session program".
 use denote.Ref.{now}
 use Rattle.transcript.specs.Promised.{Starts, Answers, Feeds, Chunks, Closes}
 use Rattle.feeding.proofs as feeding

@@ -1,4 +1,5 @@
--- What a host is told of the head that it keeps: of every sequence of calls from power-up. The questions are those of `lent`.
+-- What a host learns when it asks about the head that it keeps, after every sequence of calls from power-up. The questions are
+-- those of `lent`. 01, chapter "The head and its neighbours".
 use Prim.Native.Nat.{ℕ}
 use mathlib.Core.Path.{_≡_}
 use mathlib.Core.Logic.{_↔_}

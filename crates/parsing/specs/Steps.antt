@@ -1,5 +1,6 @@
--- The fields of a line by place: what the functions promise each other.
--- Nobody has to believe this: `parse` promises the definition of `text`.
+-- The fields of a line by their places: what the parsing functions promise each other. 01, chapter "Worked numbers", "Session
+-- program".
+-- Reviewers can skip this file: `parse` promises the definition of `text`.
 use Prim.Native.Nat.{ℕ, suc}
 use mathlib.Core.Bool.{cond}
 use mathlib.Core.List.{List, []}

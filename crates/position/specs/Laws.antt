@@ -1,4 +1,4 @@
--- What holds of every valid profile, at every raw count: of the position, of the direction, of a preset. And which profiles are valid.
+-- Laws for every valid profile and every raw count: the position, the direction, the preset; and which profiles are valid.
 -- 01, chapter "Position", in plain numbers: bit 2 of v is v / 4 % 2, bit 3 is v / 8 % 2.
 use Prim.Native.Nat.{ℕ, _+_, _*_, _-_, _/_, _%_, _≤_, _<_, _^_}
 use lib.Dec.{eqb}

@@ -1,4 +1,4 @@
--- The position that a raw count stands for, and what a preset does to the profile.
+-- The position for a raw count, and what a preset does to the profile.
 -- 01, chapter "Position", sentence by sentence: s, c, d, the position, the preset.
 use Prim.Native.Nat.{ℕ, suc, _-_, _*_, _/_, _%_, _^_}
 use lib.Dec.{eqb}

@@ -1,5 +1,5 @@
--- What the profile part of the settings can be.
--- 01, chapter "Entries", rows 6000h to 6005h, and the ranges that chapter "Position" gives T and the offset.
+-- Which values the profile part of the settings can have.
+-- 01, chapter "Entries", rows 6000h to 6005h, and the ranges of T and the offset in chapter "Position".
 use Prim.Native.Nat.{ℕ, suc, _%_, _≤_, _<_}
 use lib.IntN.{natAbs}
 use mathlib.Core.Path.{_≡_}

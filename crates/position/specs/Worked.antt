@@ -1,5 +1,5 @@
--- Numbers worked by hand.
--- 01, chapter "Worked numbers", P7 to P10, and others by the sentences of chapter "Position".
+-- Examples worked by hand.
+-- 01, chapter "Worked numbers", P7 to P10, and others from the sentences of chapter "Position".
 use Prim.Native.Nat.{ℕ}
 use lib.IntN.{pos, negsuc}
 use mathlib.Core.Path.{_≡_}

@@ -1,5 +1,5 @@
--- A text that grows: what the functions promise each other.
--- Nobody has to believe this: the printing calls promise the definitions of `text`.
+-- A text that grows: what the printing functions promise each other. 01, chapter "Worked numbers", "Session program".
+-- Reviewers can skip this file: the public functions promise the definitions of `text`.
 use Prim.Native.Nat.{ℕ}
 use Prim.Native.Char.{code}
 use Rattle.text.specs.Lines.{pushed}

@@ -1,4 +1,4 @@
--- What a call can do to a head, of 01's chapters "States" and "The waiting line": the acts, what each does to all but the line,
+-- What calls can do to a head, as acts (01, chapters "States" and "The waiting line"): what each act changes apart from the line,
 -- whose moment it is, and how the line then settles.
 use Prim.Native.Nat.{ℕ, suc}
 use lib.Dec.{eqb, ltb}

@@ -1,5 +1,5 @@
--- The emergency, at every slot at which it leaves: what its eight bytes say, what then counts as announced, and how long it is inhibited.
--- By the last sample and the calls, of every list of calls from power-up. 01's chapter "The waiting line".
+-- The emergency, at every slot that sends it: what its eight bytes say, what then counts as announced, and how long the inhibit
+-- time is. Stated from the last sample and the calls, for every list of calls from power-up. 01, chapter "The waiting line".
 use Prim.Native.Nat.{ℕ, _+_, _*_, _<_, _≤_}
 use mathlib.Core.Path.{_≡_}
 use mathlib.Core.Logic.{_↔_}

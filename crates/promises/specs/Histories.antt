@@ -1,5 +1,5 @@
 -- Sequences of calls: the head after them, the frames that their slots send, and the heads that come from power-up.
--- "Every head comes from power-up and is altered by calls only": 01's chapter "The head and its neighbours".
+-- "Every head comes from power-up and is altered by calls only": 01, chapter "The head and its neighbours".
 use Prim.Native.Nat.{ℕ, _+_}
 use mathlib.Core.Path.{_≡_}
 use mathlib.Core.Bool.{cond}

@@ -1,4 +1,4 @@
--- The NMT state over every sequence of calls: which calls enter one, and that no other does. 01's chapter "States".
+-- The NMT state over every sequence of calls: which calls enter a state, and that no other call does. 01, chapter "States".
 use mathlib.Core.Path.{_≡_}
 use mathlib.Core.Logic.{_⊎_}
 use mathlib.Core.Bool.{true}

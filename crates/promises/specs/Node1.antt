@@ -1,4 +1,4 @@
--- Node 1, powered up as in 01's chapter "Worked numbers", and the frames that its master sends: for runs by calls from power-up.
+-- Node 1, powered up as in 01's chapter "Worked numbers", and the frames that its master sends: for runs of calls from power-up.
 use Prim.Native.Nat.{ℕ}
 use mathlib.Core.Bool.{false}
 use mathlib.Core.List.{List, [], _∷_}

@@ -1,4 +1,4 @@
--- 01's chapter "States": the NMT states, power-up, the commands, and what a reset restores.
+-- The NMT states, power-up, the commands, and what a reset restores: 01, chapter "States".
 use Prim.Native.Nat.{ℕ}
 use lib.Dec.{eqb}
 use mathlib.Core.Bool.{Bool, true, false, _&&_, _||_, cond}

@@ -1,4 +1,4 @@
--- 01's chapter "The waiting line": the inhibit time, the heartbeat's ticks, and the ticks and SYNCs of a PDO.
+-- The inhibit time, the heartbeat's ticks, and the ticks and SYNCs of a PDO: 01, chapter "The waiting line".
 use Prim.Native.Nat.{ℕ, suc, _+_, _-_, _/_}
 use lib.Dec.{eqb, ltb}
 use mathlib.Core.Bool.{Bool, not, _&&_, _||_, cond}

@@ -1,4 +1,5 @@
--- 01's list "Withdrawals, and no others", a clause for each of its lines: by which calls a kind goes unsent. Chapter "The waiting line".
+-- Which calls take a kind from the line unsent: 01's list "Withdrawals, and no others", one clause for each of its lines. Chapter
+-- "The waiting line".
 use Prim.Native.Nat.{ℕ, _≤_}
 use mathlib.Core.Path.{_≡_}
 use mathlib.Core.Bool.{true, false}

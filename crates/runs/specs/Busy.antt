@@ -1,5 +1,5 @@
--- A busy line on which the reading goes missing, by calls from power-up of
--- node 1: what `Gap` and `Emergency` of crate promises ask for is met, and what is sent then.
+-- A run of node 1 from power-up: the reading goes missing while several frames wait. It meets the conditions of `Gap` and
+-- `Emergency` of crate promises, and shows what is then sent. 01, chapter "The waiting line".
 use lib.ListN.{replicate}
 use mathlib.Core.Path.{_≡_}
 use mathlib.Core.Bool.{true, false}

@@ -1,4 +1,4 @@
--- A position that is set, kept and shown: what `Readings` of crate promises asks for is met.
+-- A position that is set, kept and shown. This run meets the conditions of `Readings` of crate promises. 01, chapter "Position".
 use Prim.Native.Nat.{ℕ}
 use mathlib.Core.Path.{_≡_}
 use mathlib.Core.Bool.{true}

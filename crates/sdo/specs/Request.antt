@@ -1,4 +1,4 @@
--- A request taken apart is a read, a write, or an unknown command: 01's chapter "Service requests". A request is its eight bytes, f.
+-- A request taken apart: a read, a write, or an unknown command. A request is its eight bytes, f. 01, chapter "Service requests".
 use Prim.Native.Nat.{ℕ, _-_, _/_, _%_}
 use lib.Dec.{eqb}
 use lib.ListN.{getD}

@@ -1,4 +1,4 @@
--- What is due to a request: 01's chapter "Service requests", the list "First that applies".
+-- What is due to a request: the list "First that applies" of 01, chapter "Service requests".
 use Prim.Native.Nat.{ℕ, _-_, _/_, _%_}
 use lib.Dec.{eqb, ltb}
 use mathlib.Core.Bool.{Bool, not, _&&_, cond}

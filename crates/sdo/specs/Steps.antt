@@ -1,4 +1,5 @@
--- The parts of the service as the code has them: taken apart, looked up, then by one abort code, 0 for none.
+-- The service in the steps that the code takes: the request is taken apart, the entry is looked up, and one abort code decides, 0
+-- for none. 01, chapter "Service requests".
 use Prim.Native.Nat.{ℕ}
 use lib.Dec.{eqb, ltb}
 use mathlib.Core.Bool.{Bool, cond}

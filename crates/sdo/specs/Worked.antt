@@ -1,4 +1,4 @@
--- 01's worked numbers: node 1, Pre-operational, factory settings.
+-- Requests and replies of 01's chapter "Worked numbers": node 1, Pre-operational, factory settings.
 use Prim.Native.Nat.{ℕ}
 use mathlib.Core.Path.{_≡_}
 use mathlib.Core.Bool.{false}

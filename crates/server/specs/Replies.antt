@@ -1,4 +1,4 @@
--- Reply: 580h+N, 8 bytes.
+-- The frame of a reply: 580h+N, 8 bytes. 01, chapter "Service requests".
 use Prim.Native.Nat.{ℕ, _+_}
 use mathlib.Core.List.{List}
 use Rattle.can.specs.declared.Frame.{Frame}

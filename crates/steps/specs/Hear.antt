@@ -1,5 +1,5 @@
--- What a frame means to the parts of a head that decide it. Definitions that follow the code; nobody has to believe them:
--- proofs/Heard.antt proves that the head that each way leaves is what `promises` says.
+-- What a received frame means, from the parts of a head that decide it: 01, chapters "States", "The waiting line" and "Service
+-- requests". Reviewers can skip this file: it follows the code, and proofs/Heard.antt proves that it is what `promises` says.
 use Prim.Native.Nat.{ℕ, _+_}
 use lib.Dec.{eqb, leb}
 use mathlib.Core.Bool.{false, not, _&&_, _||_, cond}

@@ -1,4 +1,5 @@
--- The head that each way of a frame leaves: the parts that its step gives, put back.
+-- The head after each way that a received frame can go: the parts that its step gives, put back. 01, chapters "States" and
+-- "Service requests".
 use Prim.Native.Nat.{ℕ}
 use lib.Dec.{eqb}
 use mathlib.Core.List.{[], _∷_}

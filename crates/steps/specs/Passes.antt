@@ -1,4 +1,4 @@
--- A frame that `hear` lets pass: way 0. 01's chapter "Refusal numbers".
+-- A frame that goes way 0, which `hear` lets pass, changes nothing. 01, chapter "Refusal numbers".
 use mathlib.Core.Path.{_≡_}
 use Rattle.can.specs.declared.Received.{Received}
 use Rattle.parts.specs.declared.Head.{Head}

@@ -1,5 +1,6 @@
--- What a slot answers, its way, and what sending makes of the parts of a head that it may alter, as the code has it. Nobody has to
--- believe these: put into a head, the parts are what `promises` says (proofs/Slots.antt).
+-- What a slot answers, which way it goes, and what sending changes in the parts of a head, as the code computes it: 01, chapter
+-- "The waiting line". Reviewers can skip this file: proofs/Slots.antt proves that the head with these parts is what `promises`
+-- says.
 use Prim.Native.Nat.{ℕ, _+_}
 use lib.Dec.{eqb}
 use mathlib.Core.Bool.{Bool, not, _&&_, cond}

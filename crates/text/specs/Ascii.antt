@@ -1,4 +1,4 @@
--- Quoted text as bytes, for the definitions that name letters of 01's session program.
+-- Quoted text as bytes, for the definitions that name letters of the session program: 01, chapter "Worked numbers".
 use Prim.Native.Nat.{ℕ}
 use Prim.Native.Char.{code}
 use Prim.Native.String.{String, [], _∷_}

@@ -1,4 +1,4 @@
--- What a line says: 01's chapter "Worked numbers", "Session program", in its order.
+-- What a line says: 01, chapter "Worked numbers", "Session program", in its order.
 -- A line that has none of these forms is `Malformed`: refusal 9, "a line not of its form".
 use Prim.Native.Nat.{ℕ, _+_, _*_, _-_}
 use Prim.Native.Char.{code}

@@ -1,5 +1,6 @@
--- What holds of every input and of every text that is printed: `Laws`.
--- No line is lost or made up, none that is short enough loses a byte, a number is within its bounds, and a printed frame can be read again.
+-- `Laws`: what holds for every input and every printed text. 01, chapter "Worked numbers", "Session program".
+-- No line is lost or made up, no short enough line loses a byte, a number is within its bounds, and a printed frame can be read
+-- again.
 use Prim.Native.Nat.{ℕ, _≤_}
 use mathlib.Core.Path.{_≡_}
 use mathlib.Core.List.{List, [], _∷_, _++_, map}

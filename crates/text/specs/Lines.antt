@@ -1,4 +1,4 @@
--- The lines of an input, and how one is gathered byte by byte: 01's chapter "Worked numbers", "Session program".
+-- The lines of an input, and how a line is gathered byte by byte: 01, chapter "Worked numbers", "Session program".
 -- A line is the list of its bytes, without the 0Ah that ends it.
 use Prim.Native.Nat.{ℕ, _+_}
 use Prim.Native.Char.{code}

@@ -1,4 +1,4 @@
--- What is printed: 01's chapter "Worked numbers", "Session program".
+-- What is printed: 01, chapter "Worked numbers", "Session program".
 -- Every printed line ends in 0Ah.
 use Prim.Native.Nat.{ℕ, _+_, _-_, _/_, _%_}
 use Prim.Native.Char.{code}

@@ -1,5 +1,5 @@
--- Lines by examples: 01's session, "Worked numbers", line by line as it is read and as it is printed;
--- and lines at the edge of their form, or not of it.
+-- Examples of lines: those of the session in 01's chapter "Worked numbers", as read and as printed; and lines that are just of
+-- their form, or just not.
 use Prim.Native.Nat.{ℕ}
 use mathlib.Core.Path.{_≡_}
 use mathlib.Core.Bool.{true, false}

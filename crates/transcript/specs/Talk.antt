@@ -1,5 +1,5 @@
--- The session, line by line: 01's chapter "Worked numbers", "Session program".
--- `transcript` is the whole program: from the bytes of its standard input to those of its standard output.
+-- The session, line by line: 01, chapter "Worked numbers", "Session program".
+-- `transcript` is the whole program, from the bytes of its standard input to those of its standard output.
 use Prim.Native.Nat.{ℕ}
 use mathlib.Core.List.{List, [], _∷_, _++_}
 use Rattle.parts.specs.declared.Head.{Head}

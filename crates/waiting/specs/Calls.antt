@@ -1,5 +1,6 @@
--- What a call does to the line: a slot sends the first; then, of any call, the kinds `out` are withdrawn and the kinds `into` join.
--- `after` says it of the line, `afterIn` of the places that hold it.
+-- What one call does to the line: a slot sends the first kind; then the kinds `out` are withdrawn and the kinds `into` join. 01,
+-- chapter "The waiting line".
+-- `after` states this for the line, `afterIn` for the places that hold it.
 use Prim.Native.Nat.{ℕ, _-_, _<_, _≤_}
 use mathlib.Core.Bool.{Bool, false, cond}
 use mathlib.Core.List.{List, [], _∷_}

@@ -1,7 +1,8 @@
--- What one join, one withdrawal and a slot do to the waiting line: `Lines`.
--- What holds of it after every call, for any number n of kinds: `Laws`.
--- There is room, the places hold the line, the order is kept, and it is known who waits.
--- What holds of those that are due in one call: `InTurn`. They join in the order given.
+-- Laws of the waiting line: 01, chapter "The waiting line".
+-- `Lines`: what one join, one withdrawal and one slot do to it.
+-- `Laws`: what holds after every call, for any number n of kinds. There is room, the places hold the line, the order is kept, and
+-- it is known who waits.
+-- `InTurn`: kinds that are due in one call join in the order given.
 use Prim.Native.Nat.{ℕ, _<_, _≤_}
 use mathlib.Core.Path.{_≡_}
 use mathlib.Core.Logic.{_↔_}

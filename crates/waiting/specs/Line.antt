@@ -1,5 +1,5 @@
--- The waiting line, 01's chapter of that name: a list of kind numbers, first to last.
--- The laws are over any number of kinds; 01 has five.
+-- The waiting line as a list of kind numbers, first to last: 01, chapter "The waiting line".
+-- The laws hold for any number of kinds; 01 has five.
 use Prim.Native.Nat.{ℕ, _<_, _≤_}
 use mathlib.Core.Path.{_≡_}
 use mathlib.Core.Bool.{Bool, false, _||_, cond}

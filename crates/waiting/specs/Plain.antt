@@ -1,5 +1,6 @@
--- The smallest head: its line, and calls that are slots or withdraw some kinds and let some join.
--- Of it a kind that waits leaves by the n-th slot, for any n; and an example in which one does.
+-- The smallest head: a line, and calls that are slots or that withdraw some kinds and let others join. 01, chapter "The waiting
+-- line".
+-- In it a waiting kind leaves by the n-th slot, for any n. An example shows a kind that does.
 use Prim.Native.Nat.{ℕ}
 use mathlib.Core.Path.{_≡_}
 use mathlib.Core.Bool.{Bool, true, false}

@@ -1,10 +1,11 @@
--- A frame that waits leaves, over every list of calls and any head. A head is seen as its waiting line.
+-- A frame that waits leaves: definitions for every list of calls and any head, seen as its waiting line. 01, chapter "The waiting
+-- line".
 --     Machine, Sound     what a head must tell: its line, which of its calls are slots, and what each call does to the line
 --     runs               the head after a list of calls
---     sent               what the slots of a list of calls sent, a kind for each slot in order, 0 for none
---     LeavesBy           a kind leaves by slot number b: sent by a slot, or withdrawn by a call, after which it no longer waits
---     Recorded           the same, by what the slots sent
---     Leaves, Demand3    when a kind leaves, of every sound machine
+--     sent               what the slots of a list of calls sent: one kind for each slot in order, 0 for none
+--     LeavesBy           a kind leaves by slot number b: a slot sends it, or a call withdraws it, and then it no longer waits
+--     Recorded           the same, read from what the slots sent
+--     Leaves, Demand3    when a kind leaves, for every sound machine
 use Prim.Native.Nat.{ℕ, suc, _+_, _<_, _≤_}
 use mathlib.Core.Path.{_≡_}
 use mathlib.Core.Bool.{Bool, true, false, cond}

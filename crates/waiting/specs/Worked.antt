@@ -1,4 +1,4 @@
--- The waiting line by examples, in its places.
+-- Examples of the waiting line, in its places. 01, chapter "The waiting line".
 use Prim.Native.Nat.{ℕ}
 use mathlib.Core.Path.{_≡_}
 use mathlib.Core.Bool.{true, false}
