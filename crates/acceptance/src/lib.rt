@@ -1,4 +1,5 @@
-//! Which writes an entry takes: its accepted values, and the state that it asks for.
+//! Which writes an entry accepts, by value and by state, and the abort code
+//! for any other: 01, "Entries", and steps 5 and 6 of "First that applies".
 ghost use mathlib.Core.Path.{_≡_};
 ghost use mathlib.Core.Bool.{cond};
 ghost use Rattle.dictionary.specs.Accepted.{on, pdoIdentifier, transmissionType, valueAbortCode, pdoBarred, barred as barredBy, abortCode};

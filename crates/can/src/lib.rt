@@ -1,4 +1,4 @@
-//! CAN frames as they come and go, and the numbers that stand in their bytes.
+//! CAN frames received and sent, their refusal, and the numbers in their bytes: 01, "Refusal numbers" 1 and 2.
 
 ghost use mathlib.Core.Path.{_≡_};
 ghost use mathlib.Core.List.{[], _∷_};

@@ -1,5 +1,5 @@
--- `firstOf`: a choice by several tests, the first that passes. 01 uses it in "First that applies", chapter "Service requests". A
--- choice by one test is the library's `cond`.
+-- `firstOf`: a choice by several tests, the first that passes. 01 uses it in "First that
+-- applies", chapter "Service requests". A choice by one test is the library's `cond`.
 use mathlib.Core.Bool.{Bool, cond}
 use mathlib.Core.List.{List, [], _∷_}
 

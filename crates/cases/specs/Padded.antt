@@ -1,5 +1,4 @@
--- A list in a fixed number of places, as an array holds it: the waiting line, the bytes of a frame, a line of the session
--- program.
+-- A list in a fixed number of places, as an array holds it: the waiting line, the bytes of a frame, a line of the session program.
 use Prim.Native.Nat.{ℕ, zero, suc}
 use mathlib.Core.List.{List, [], _∷_}
 

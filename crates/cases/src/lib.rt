@@ -1,4 +1,4 @@
-//! Definitions that several crates share, and laws about them: a choice by a test, a list in places. There is no code here.
+//! Shared definitions and laws about them: the first test that applies, a number within bounds, a list in places. No code.
 
 ghost use Rattle.cases.specs.Laws.{Laws};
 

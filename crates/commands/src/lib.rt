@@ -1,4 +1,4 @@
-//! What each command does to the head, and what it prints.
+//! What each command of the session does to the head, and what it prints: 01, "Worked numbers", "Session program".
 ghost use mathlib.Core.Path.{_≡_};
 ghost use Rattle.promises.specs.Calls.{receive as receives, sample as samples};
 ghost use Rattle.promises.specs.Valid.{Valid};

@@ -1,5 +1,5 @@
--- One step in counting a period of n: the new count, and whether n is reached. 01, chapter "The waiting line": every H ticks,
--- every E ticks, each n-th SYNC.
+-- One step in counting a period of n: the new count, and whether n is reached.
+-- 01, chapter "The waiting line": every H ticks, every E ticks, each n-th SYNC.
 use Prim.Native.Nat.{ℕ}
 use Rattle.promises.specs.Timers.{counted, completes}
 use Rattle.counting.specs.declared.Count.{Count}

@@ -1,4 +1,4 @@
-//! A period counted: of ticks, or of SYNCs.
+//! Counts a period in ticks or in SYNCs: 01, "The waiting line".
 ghost use mathlib.Core.Path.{_≡_};
 ghost use mathlib.Core.Bool.{cond};
 ghost use Rattle.counting.specs.Periods.{oneMore};

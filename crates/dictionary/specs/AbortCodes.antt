@@ -1,5 +1,4 @@
--- The abort codes for a wrong value and for a wrong state: steps 5 and 6 of "First that applies" in 01, chapter "Service
--- requests".
+-- The abort codes for a wrong value and for a wrong state: steps 5 and 6 of "First that applies" in 01, chapter "Service requests".
 use Prim.Native.Nat.{ℕ}
 
 -- value: 0609 0030h;

@@ -1,5 +1,5 @@
--- The values that each entry accepts, and the states in which it can be written: 01, chapter "Entries", and steps 5 and 6 of
--- "First that applies" in chapter "Service requests".
+-- The values that each entry accepts, and the states in which it can be written: 01, chapter
+-- "Entries", and steps 5 and 6 of "First that applies" in chapter "Service requests".
 use Prim.Native.Nat.{ℕ, _+_, _/_, _%_}
 use lib.Dec.{eqb, ltb}
 use mathlib.Core.Bool.{Bool, true, false, not, _&&_, _||_, cond}

@@ -1,5 +1,5 @@
--- What the entries read after an accepted write, and what the saved set then is: lists by the key of the written entry, to
--- compare with 01's chapters "Entries" and "Position" line by line. `EffectLaws` states that the entries do read so.
+-- What the entries read after an accepted write, and what the saved set then is: lists by the key of the written entry,
+-- to compare with 01's chapters "Entries" and "Position" line by line. `EffectLaws` states that the entries do read so.
 use Prim.Native.Nat.{ℕ, _+_}
 use lib.Dec.{eqb}
 use lib.IntN.{pos, _-ℤ_}

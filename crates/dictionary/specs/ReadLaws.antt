@@ -1,5 +1,5 @@
--- What each entry reads, for every device, Operational or not. These laws check specs/Reads and the last columns of the table in
--- crate entries. 01, chapter "Entries".
+-- What each entry reads, for every device, Operational or not. These laws check
+-- specs/Reads and the last columns of the table in crate entries. 01, chapter "Entries".
 use Prim.Native.Nat.{ℕ, suc, _+_, _-_, _≤_, _<_}
 use lib.IntN.{pos, negsuc}
 use mathlib.Core.Path.{_≡_}

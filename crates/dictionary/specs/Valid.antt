@@ -1,6 +1,5 @@
--- Valid devices, which are those that power-up and accepted writes leave. Each setting has its type, and is the factory value of
--- its entry or one that the entry accepts: 01, chapter "Entries". The node number and the raw position are not refused by
--- "Refusal numbers".
+-- Valid devices, which are those that power-up and accepted writes leave. Each setting has its type, and is the factory value of its
+-- entry or one that the entry accepts: 01, chapter "Entries". The node number and the raw position are not refused by "Refusal numbers".
 use Prim.Native.Nat.{ℕ, _≤_}
 use mathlib.Core.Path.{_≡_}
 use mathlib.Core.Bool.{true, false}

@@ -1,5 +1,5 @@
--- What a write changes in a device, number by number and with plain keys. These laws check specs/Writes and specs/Effects, and
--- use neither the tests of the one nor the lists of the other. 01, chapters "Entries" and "Position".
+-- What a write changes in a device, number by number and with plain keys. These laws check specs/Writes and
+-- specs/Effects, and use neither the tests of the one nor the lists of the other. 01, chapters "Entries" and "Position".
 use Prim.Native.Nat.{ℕ}
 use lib.IntN.{pos, _+ℤ_}
 use mathlib.Core.Path.{_≡_}

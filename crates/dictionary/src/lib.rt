@@ -1,4 +1,5 @@
-//! The object dictionary: what each entry reads, which values it takes, and what a write does. Types and laws, no functions.
+//! The object dictionary: what each entry reads, which values it accepts, and
+//! what a write does (01, "Entries"). Types, definitions and laws, no code.
 ghost use Rattle.dictionary.specs.AcceptedLaws.{AcceptedLaws};
 ghost use Rattle.dictionary.specs.ValidLaws.{ValidLaws};
 ghost use Rattle.dictionary.specs.WriteLaws.{WriteLaws};

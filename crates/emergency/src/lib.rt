@@ -1,4 +1,4 @@
-//! The emergency: when it waits, what it says, and the inhibit time that it starts.
+//! The emergency: when it waits, its frame, and the inhibit time that it starts. 01, "The waiting line".
 ghost use mathlib.Core.Path.{_≡_};
 ghost use Prim.Native.Nat.{_+_, _-_, _≤_};
 ghost use Rattle.cases.specs.Padded.{pad};

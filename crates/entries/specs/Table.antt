@@ -1,5 +1,5 @@
--- The table of 01's chapter "Entries" as a list in index order, one line for each entry, to compare with 01 line by line; and the
--- place of an entry in it.
+-- The table of 01's chapter "Entries" as a list in index order, one line for
+-- each entry, to compare with 01 line by line; and the place of an entry in it.
 use Prim.Native.Nat.{ℕ, suc, _+_, _*_}
 use lib.Dec.{eqb, ltb}
 use lib.ListN.{getD}

@@ -1,4 +1,4 @@
-//! The settings and their factory values, the device that the entries show, and the table of entries.
+//! The settings and their factory values, the device that the entries show, and the table of entries. 01, "Entries".
 ghost use mathlib.Core.Path.{_≡_};
 ghost use Rattle.entries.specs.Settings.{factory as factorySettings};
 ghost use Rattle.entries.specs.Laws.{Laws};

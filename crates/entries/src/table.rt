@@ -1,4 +1,4 @@
-//! The table of entries, in index order: the row of each, and where an entry stands.
+//! The table of entries, in index order: the row of each entry, and its place. 01, "Entries".
 ghost use mathlib.Core.Path.{_≡_};
 ghost use mathlib.Core.Bool.{cond};
 ghost use Prim.Native.Nat.{_+_, _<_, _≤_};

@@ -1,4 +1,4 @@
-//! The input of a session as its bytes come: a byte, a chunk, the end; and what they print.
+//! The input of a session as its bytes arrive (a byte, a chunk, the end), and what it prints: 01, "Worked numbers", "Session program".
 ghost use Prim.Native.Nat.{_+_, _*_, _≤_};
 ghost use lib.ListN.{length};
 ghost use Rattle.text.specs.Lines.{longest, held};

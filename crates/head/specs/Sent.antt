@@ -1,5 +1,5 @@
--- The head after a slot, for each way that a slot can go. Reviewers can skip this file: it follows the code, and crate steps
--- proves that these heads are what `promises` says. 01, chapter "The waiting line".
+-- The head after a slot, for each way that a slot can go. Reviewers can skip this file: it follows the
+-- code, and crate steps proves that these heads are what `promises` says. 01, chapter "The waiting line".
 use Prim.Native.Nat.{ℕ}
 use lib.Dec.{eqb}
 use mathlib.Core.Bool.{cond}

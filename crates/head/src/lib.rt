@@ -1,4 +1,5 @@
-//! The head by value: power-up, frame received, tick, sample, slot. Each call hands parts of the head to a step and puts back those that come out of it.
+//! The head by value: power-up, frame received, tick, sample, slot. 01, "The head and its
+//! neighbours". Each call passes parts of the head to a step and stores the parts that come back.
 ghost use mathlib.Core.Path.{_≡_};
 ghost use Rattle.promises.specs.States.{started as startedHead};
 ghost use Rattle.parts.specs.declared.Sensor.the-variants.{Missing, Raw};

@@ -1,4 +1,4 @@
-//! What a received frame leaves, by its way.
+//! What a received frame leaves, for each way that it can go.
 ghost use mathlib.Core.Path.{_≡_};
 ghost use Rattle.position.specs.Profile.{ValidProfile};
 ghost use Rattle.dictionary.specs.Writes.{Fits};

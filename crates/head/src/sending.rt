@@ -1,4 +1,4 @@
-//! What a slot leaves, by its way.
+//! What a slot leaves, for each way that it can go.
 ghost use mathlib.Core.Path.{_≡_};
 ghost use Prim.Native.Nat.{_≤_};
 ghost use Rattle.waiting.specs.Line.{places};

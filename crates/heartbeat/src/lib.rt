@@ -1,4 +1,4 @@
-//! The heartbeat: when it can wait, its period, its frame.
+//! The heartbeat: when it may wait, its period, its frame. 01, "The waiting line".
 ghost use mathlib.Core.Path.{_≡_};
 ghost use mathlib.Core.List.{[], _∷_};
 ghost use Prim.Native.Nat.{_+_};

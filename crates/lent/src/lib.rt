@@ -1,5 +1,6 @@
-//! The head for a host that keeps it in its own memory and lends it for each call; C and Rust link these functions.
-//! Each call hands parts of the head to a step by value and stores the parts that come back.
+//! The head for a host that keeps it in its own memory and lends it for each
+//! call; C and Rust link these functions. 01, "The head and its neighbours".
+//! Each call passes parts of the head to a step by value and stores the parts that come back.
 ghost use mathlib.Core.Path.{_≡_};
 ghost use Rattle.parts.specs.declared.Sensor.the-variants.{Missing, Raw};
 ghost use Rattle.promises.specs.Valid.{Valid};

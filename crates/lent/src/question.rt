@@ -1,4 +1,4 @@
-//! What a host may ask of a head, by value.
+//! What a host may ask about a head, by value.
 ghost use mathlib.Core.Path.{_≡_};
 ghost use Rattle.promises.specs.Valid.{Valid};
 ghost use Rattle.lent.specs.Questions.{stateCode, isGood, positionOf, anyWaits};

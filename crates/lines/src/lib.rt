@@ -1,4 +1,4 @@
-//! A line gathered byte by byte, read or printed.
+//! A line gathered byte by byte, for reading and for printing: 01, "Worked numbers", "Session program".
 ghost use mathlib.Core.Path.{_≡_};
 ghost use Rattle.text.specs.Lines.{atMost, longest, blank, pushed};
 use text::LONGEST;

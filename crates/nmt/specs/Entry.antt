@@ -1,5 +1,5 @@
--- What entering a state and a reset change in the parts of a head: 01, chapter "States". Reviewers can skip this file: it follows
--- the code, and proofs/Entered.antt proves that the head with these parts is what `promises` says.
+-- What entering a state and a reset change in the parts of a head: 01, chapter "States". Reviewers can skip this
+-- file: it follows the code, and proofs/Entered.antt proves that the head with these parts is what `promises` says.
 use lib.Dec.{eqb}
 use mathlib.Core.Bool.{Bool, true, not, cond}
 use mathlib.Core.List.{List, []}

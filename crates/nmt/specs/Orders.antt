@@ -1,5 +1,5 @@
--- What a command orders in the state that a head is in: 01, chapter "States". "Others have no effect, nor does a command naming
--- the present state."
+-- What a command orders in the state that a head is in: 01, chapter "States".
+-- "Others have no effect, nor does a command naming the present state."
 use lib.Dec.{eqb}
 use mathlib.Core.Bool.{true, false, cond}
 use Rattle.parts.specs.declared.Nmt.{Nmt}

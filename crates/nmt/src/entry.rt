@@ -1,4 +1,4 @@
-//! A state is entered, or settings are reset.
+//! Entering a state, and resetting the settings.
 ghost use mathlib.Core.Path.{_≡_};
 ghost use Rattle.promises.specs.States.{atRest};
 ghost use Rattle.promises.specs.WaitingLine.{flagsOf};

@@ -1,4 +1,4 @@
-//! NMT: what a command orders, and what entering a state and a reset do.
+//! NMT: what a command orders, and what entering a state and a reset do. 01, "States".
 ghost use mathlib.Core.Path.{_≡_};
 ghost use Rattle.promises.specs.States.{commandOf, command as commandIn};
 ghost use Rattle.nmt.specs.Orders.{noOrder, orderOf, entering};

@@ -1,5 +1,5 @@
--- A field of a line, from the place where it starts, read as a number: 01, chapter "Worked numbers", "Session program". Reviewers
--- can skip this file: it follows the code, and `parsing::parse` promises the definition of `text`.
+-- A field of a line, from the place where it starts, read as a number: 01, chapter "Worked numbers", "Session
+-- program". Reviewers can skip this file: it follows the code, and `parsing::parse` promises the definition of `text`.
 use Prim.Native.Nat.{ℕ, _+_}
 use Prim.Native.Char.{code}
 use mathlib.Core.Bool.{cond}

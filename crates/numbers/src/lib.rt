@@ -1,4 +1,4 @@
-//! A field read as a number.
+//! Reads a field of a line as a number: 01, "Worked numbers", "Session program".
 ghost use mathlib.Core.Path.{_≡_};
 ghost use Prim.Native.Nat.{_≤_};
 ghost use Rattle.text.specs.Grammar.{digitOf};

@@ -1,6 +1,5 @@
--- `Asked`: what each public function requires of its arguments, and that it requires no more. So its promise holds for every
--- input: a head that comes from power-up and calls may receive any frame and answer any line, refused ones too. 01, chapter
--- "Strength of the promises".
+-- `Asked`: what each public function requires of its arguments, and that it requires no more. So its promise holds for every input: a head
+-- that comes from power-up and calls may receive any frame and answer any line, refused ones too. 01, chapter "Strength of the promises".
 use Prim.Native.Nat.{_*_, _<_, _≤_}
 use lib.ListN.{length}
 use denote.Ref.{now}

@@ -1,5 +1,5 @@
--- "The same behaviour is also wanted of a head passed by value": the contracts of `head` promise the same as those of `lent`
--- (`LentOutcomes`).
+-- "The same behaviour is also wanted of a head passed by value": the
+-- contracts of `head` promise the same as those of `lent` (`LentOutcomes`).
 -- 01, chapter "The head and its neighbours".
 use Rattle.parts.specs.declared.Sensor.the-variants.{Missing, Raw}
 use Rattle.promises.specs.Calls.{answered}

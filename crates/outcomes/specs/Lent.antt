@@ -1,6 +1,5 @@
--- The demands hold for a head that a host lends: power-up makes such a head, and each call leaves the head `step h c`. What
--- stands left of the last arrow in each field is what the contracts of `lent` promise, as `Outcomes` shows. 01, chapter "The head
--- and its neighbours".
+-- The demands hold for a head that a host lends: power-up makes such a head, and each call leaves the head `step h c`. What stands left of
+-- the last arrow in each field is what the contracts of `lent` promise, as `Outcomes` shows. 01, chapter "The head and its neighbours".
 use Prim.Native.Nat.{ℕ}
 use mathlib.Core.Path.{_≡_}
 use Rattle.can.specs.declared.Received.{Received}

@@ -1,5 +1,5 @@
--- `Outcomes`: the contract of each public function allows one outcome. All crates are here, the lowest first. docs/PROMISES.md
--- lists what has no such theorem, and why. 01, chapter "Strength of the promises".
+-- `Outcomes`: the contract of each public function allows one outcome. All crates are here, the lowest
+-- first. docs/PROMISES.md lists what has no such theorem, and why. 01, chapter "Strength of the promises".
 use denote.Ref.{now}
 use mathlib.Core.Path.{_≡_}
 use Rattle.parts.specs.declared.Sensor.the-variants.{Missing, Raw}

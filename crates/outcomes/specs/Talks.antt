@@ -1,5 +1,5 @@
--- The contracts of the session's calls promise what `Program` of crate transcript builds on: from standard input to the whole
--- output. 01, chapter "Worked numbers", "Session program".
+-- The contracts of the session's calls promise what `Program` of crate transcript builds on:
+-- from standard input to the whole output. 01, chapter "Worked numbers", "Session program".
 use denote.Ref.{now}
 use Rattle.transcript.specs.Promised.{Starts, Answers, Feeds, Chunks, Closes}
 use Rattle.feeding.proofs as feeding

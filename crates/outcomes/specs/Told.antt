@@ -1,5 +1,5 @@
--- What a host learns when it asks about the head that it keeps, after every sequence of calls from power-up. The questions are
--- those of `lent`. 01, chapter "The head and its neighbours".
+-- What a host learns when it asks about the head that it keeps, after every sequence of calls
+-- from power-up. The questions are those of `lent`. 01, chapter "The head and its neighbours".
 use Prim.Native.Nat.{ℕ}
 use mathlib.Core.Path.{_≡_}
 use mathlib.Core.Logic.{_↔_}

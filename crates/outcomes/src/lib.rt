@@ -1,4 +1,4 @@
-//! The contract of each public call leaves one outcome.
+//! The contract of each public call allows one outcome: 01, "Strength of the promises". Theorems, no code.
 
 ghost use Rattle.outcomes.specs.Asked.{Asked};
 ghost use Rattle.outcomes.specs.ByValue.{ByValue};

@@ -1,5 +1,4 @@
--- The fields of a line by their places: what the parsing functions promise each other. 01, chapter "Worked numbers", "Session
--- program".
+-- The fields of a line by their places: what the parsing functions promise each other. 01, chapter "Worked numbers", "Session program".
 -- Reviewers can skip this file: `parse` promises the definition of `text`.
 use Prim.Native.Nat.{ℕ, suc}
 use mathlib.Core.Bool.{cond}

@@ -1,4 +1,4 @@
-//! The forms of a line: what stands behind `F `, `T ` and `S `.
+//! The forms of a line: what comes after `F `, `T ` and `S `.
 ghost use mathlib.Core.Path.{_≡_};
 ghost use lib.ListN.{drop};
 ghost use Rattle.text.specs.Ascii.{ascii};

@@ -1,4 +1,4 @@
-//! A line of the session taken apart.
+//! Parses a line of the session into a command: 01, "Worked numbers", "Session program".
 ghost use mathlib.Core.Path.{_≡_};
 ghost use Rattle.text.specs.Grammar.{parsed, saysLine};
 use text::Command;

@@ -1,5 +1,4 @@
--- A head with one part replaced: how a call stores what its step gives back. All else stays. 01, chapter "The head and its
--- neighbours".
+-- A head with one part replaced: how a call stores what its step gives back. All else stays. 01, chapter "The head and its neighbours".
 use Prim.Native.Nat.{ℕ}
 use mathlib.Core.Bool.{Bool}
 use mathlib.Core.List.{List}

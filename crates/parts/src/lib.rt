@@ -1,4 +1,4 @@
-//! What a head is made of, what its calls take and what they answer. The calls are those of crates `head` and `lent`.
+//! The types of a head, and of what its calls take and answer. Crates `head` and `lent` have the calls. 01, "The head and its neighbours".
 use can::Bytes;
 use can::Frame;
 use entries::Device;

@@ -1,4 +1,4 @@
-//! The position that a raw count stands for, and the offset that a preset gives.
+//! The position for a raw count, and the offset that a preset sets: 01, "Position".
 
 ghost use mathlib.Core.Path.{_≡_};
 ghost use Prim.Native.Nat.{_<_, _≤_};

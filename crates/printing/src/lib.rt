@@ -1,4 +1,4 @@
-//! What is printed: a frame, `-`, or a refusal, each a line with its end, 0Ah.
+//! What is printed: a frame, `-`, or a refusal, each as a line with its end, 0Ah. 01, "Worked numbers", "Session program".
 ghost use mathlib.Core.Path.{_≡_};
 ghost use Prim.Native.Nat.{_<_};
 ghost use Rattle.text.specs.Lines.{lineOf, pushed};

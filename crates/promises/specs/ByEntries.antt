@@ -1,5 +1,4 @@
--- What a head does follows from what its entries read: the position, and what an accepted write makes of 6000h to 6509h, in plain
--- numbers.
+-- What a head does follows from what its entries read: the position, and what an accepted write makes of 6000h to 6509h, in plain numbers.
 -- 01, chapters "Entries" and "Position".
 use Prim.Native.Nat.{ℕ, _+_, _-_, _*_, _/_, _%_}
 use lib.Dec.{eqb, ltb}

@@ -1,5 +1,5 @@
--- The calls, what each means to a head in its state, and what it answers: 01, chapters "The head and its neighbours" and "Refusal
--- numbers", with the conditions of "States", "The waiting line" (SYNC) and "Service requests".
+-- The calls, what each means to a head in its state, and what it answers: 01, chapters "The head and its neighbours"
+-- and "Refusal numbers", with the conditions of "States", "The waiting line" (SYNC) and "Service requests".
 use Prim.Native.Nat.{ℕ, _+_}
 use lib.Dec.{eqb, leb, ltb}
 use mathlib.Core.Bool.{Bool, true, false, not, _&&_, _||_, cond}

@@ -1,5 +1,5 @@
--- The state code after any list of calls, computed from the calls, and the frames that carry it: 01, chapters "States" and "The
--- waiting line", in their own numbers.
+-- The state code after any list of calls, computed from the calls, and the frames
+-- that carry it: 01, chapters "States" and "The waiting line", in their own numbers.
 use Prim.Native.Nat.{ℕ, _+_}
 use lib.Dec.{eqb}
 use mathlib.Core.Path.{_≡_}

@@ -1,5 +1,5 @@
--- What each call counts: the heartbeat's ticks, and each PDO's ticks and SYNCs. So `countsAfter` of specs/Moments.antt restarts
--- and goes on exactly where 01's chapter "The waiting line" says, at every node and in every state.
+-- What each call counts: the heartbeat's ticks, and each PDO's ticks and SYNCs. So `countsAfter` of specs/Moments.antt
+-- restarts and goes on exactly where 01's chapter "The waiting line" says, at every node and in every state.
 use Prim.Native.Nat.{ℕ, suc, _*_, _<_}
 use lib.Dec.{eqb}
 use mathlib.Core.Path.{_≡_}

@@ -1,6 +1,6 @@
 -- What a service request does: an accepted write has exactly the effects named for it, and an aborted write changes no entry.
--- What the entries then read is the list `effects` of crate dictionary. Which counts restart, and which kinds leave and join the
--- line, are tests by the key of the written entry, to compare with 01's chapter "The waiting line" line by line.
+-- What the entries then read is the list `effects` of crate dictionary. Which counts restart, and which kinds leave and
+-- join the line, are tests by the key of the written entry, to compare with 01's chapter "The waiting line" line by line.
 use Prim.Native.Nat.{ℕ, _+_}
 use lib.Dec.{eqb}
 use mathlib.Core.Path.{_≡_}

@@ -1,5 +1,5 @@
--- The error list over any sequence of calls: 1003-0 counts good-to-missing changes since the list was emptied, at most 4. 01,
--- chapter "Entries".
+-- The error list over any sequence of calls: 1003-0 counts good-to-missing
+-- changes since the list was emptied, at most 4. 01, chapter "Entries".
 use Prim.Native.Nat.{ℕ, suc, _≤_, min}
 use lib.Dec.{eqb, ltb}
 use mathlib.Core.Path.{_≡_}

@@ -1,5 +1,5 @@
--- Demand 3, first sentence, and what a slot answers: for every head that comes from power-up, and every list of calls. 01,
--- chapter "The waiting line".
+-- Demand 3, first sentence, and what a slot answers: for every head that comes
+-- from power-up, and every list of calls. 01, chapter "The waiting line".
 use Prim.Native.Nat.{ℕ, _+_, _<_, _≤_}
 use mathlib.Core.Path.{_≡_}
 use mathlib.Core.Logic.{_⊎_, _↔_}

@@ -1,6 +1,6 @@
--- "A gap has to arrive as a gap": the head reports a missing reading, and sends no position frame meanwhile. Demand 3, second and
--- third sentence, and the emergency of 01's chapter "The waiting line", over every list of calls. Frames are recognised by
--- identifier, length and bytes.
+-- "A gap has to arrive as a gap": the head reports a missing reading, and sends no position frame
+-- meanwhile. Demand 3, second and third sentence, and the emergency of 01's chapter "The waiting
+-- line", over every list of calls. Frames are recognised by identifier, length and bytes.
 use Prim.Native.Nat.{ℕ, _+_, _-_, _*_, _<_, _≤_}
 use lib.Dec.{eqb, leb}
 use lib.ListN.{getD}

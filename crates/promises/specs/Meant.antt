@@ -1,5 +1,4 @@
--- Which frames are meant for the head, and which are not: 01, chapters "States", "The waiting line" (SYNC) and "Service
--- requests".
+-- Which frames are meant for the head, and which are not: 01, chapters "States", "The waiting line" (SYNC) and "Service requests".
 use Prim.Native.Nat.{ℕ, _+_, _<_, _≤_}
 use mathlib.Core.Path.{_≡_}
 use mathlib.Core.Bool.{true, false, _||_}

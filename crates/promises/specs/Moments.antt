@@ -1,5 +1,5 @@
--- When a kind starts to wait: 01's moments, for every list of calls from power-up. Ticks and SYNCs are counted from the calls,
--- starting at the call that 01 names; the head's own timers are not read. 01, chapter "The waiting line".
+-- When a kind starts to wait: 01's moments, for every list of calls from power-up. Ticks and SYNCs are counted from
+-- the calls, starting at the call that 01 names; the head's own timers are not read. 01, chapter "The waiting line".
 use Prim.Native.Nat.{ℕ, suc, _%_, _<_, _≤_}
 use lib.Dec.{eqb, leb}
 use mathlib.Core.Path.{_≡_}

@@ -1,5 +1,5 @@
--- Each setting is what its entry reads, in every head. So a theorem about a setting is one about 1014h, 1015h, 1017h, sub 1, 2 or
--- 5 of a PDO, or 6000h to 6509h. 01, chapters "Entries", "The waiting line" and "Position".
+-- Each setting is what its entry reads, in every head. So a theorem about a setting is one about 1014h, 1015h,
+-- 1017h, sub 1, 2 or 5 of a PDO, or 6000h to 6509h. 01, chapters "Entries", "The waiting line" and "Position".
 use Prim.Native.Nat.{ℕ, _<_, _≤_}
 use mathlib.Core.Path.{_≡_}
 use mathlib.Core.Logic.{_↔_}

@@ -1,6 +1,5 @@
--- "A due moment with a missing reading is passed over": no frame joins at that moment, or later because of it, and the count goes
--- on as if one had joined. For every list of calls from power-up, counted from the calls as in specs/Moments.antt. 01, chapter
--- "The waiting line".
+-- "A due moment with a missing reading is passed over": no frame joins at that moment, or later because of it, and the count goes on as if
+-- one had joined. For every list of calls from power-up, counted from the calls as in specs/Moments.antt. 01, chapter "The waiting line".
 use Prim.Native.Nat.{ℕ}
 use mathlib.Core.Path.{_≡_}
 use mathlib.Core.Logic.{_↔_}

@@ -1,5 +1,5 @@
--- What each call promises: its answer, and that the head it leaves is valid and is `step h c`. All theorems are about `step`. The
--- contracts of `head` and `lent` are these promises. 01, chapter "Strength of the promises".
+-- What each call promises: its answer, and that the head it leaves is valid and is `step h c`. All theorems are
+-- about `step`. The contracts of `head` and `lent` are these promises. 01, chapter "Strength of the promises".
 use Prim.Native.Nat.{ℕ}
 use mathlib.Core.Path.{_≡_}
 use Rattle.can.specs.declared.Received.{Received}

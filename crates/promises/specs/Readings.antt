@@ -1,5 +1,5 @@
--- What 6004h, 1001h, 6503h and the position frames show of the samples, over any sequence of calls: demand 2's "a position is the
--- exact result of scaling, direction, preset and range". 01, chapters "Entries" and "Position".
+-- What 6004h, 1001h, 6503h and the position frames show of the samples, over any sequence of calls: demand 2's "a
+-- position is the exact result of scaling, direction, preset and range". 01, chapters "Entries" and "Position".
 use Prim.Native.Nat.{ℕ}
 use lib.Dec.{eqb, ltb}
 use mathlib.Core.Path.{_≡_}

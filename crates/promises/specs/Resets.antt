@@ -1,5 +1,4 @@
--- Save, load and the two resets: which settings each leaves, and how a head starts after a reset. 01, chapters "States" and
--- "Entries".
+-- Save, load and the two resets: which settings each leaves, and how a head starts after a reset. 01, chapters "States" and "Entries".
 use Prim.Native.Nat.{ℕ}
 use lib.Dec.{eqb, ltb}
 use mathlib.Core.Path.{_≡_}

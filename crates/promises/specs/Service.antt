@@ -1,5 +1,5 @@
--- Demand 2 for service requests: each request that is served gets the reply due to it, over any sequence of calls. 01, chapter
--- "Service requests".
+-- Demand 2 for service requests: each request that is served gets the reply
+-- due to it, over any sequence of calls. 01, chapter "Service requests".
 use Prim.Native.Nat.{ℕ, _+_, _≤_}
 use lib.Dec.{eqb}
 use mathlib.Core.Path.{_≡_}

@@ -1,5 +1,5 @@
--- What power-up leaves, "It starts in Initialising with factory settings, the saved set equal to them, the reading missing, the
--- error list empty", and which of it no call changes. 01, chapters "States", "Refusal numbers" and "Entries".
+-- What power-up leaves, "It starts in Initialising with factory settings, the saved set equal to them, the reading
+-- missing, the error list empty", and which of it no call changes. 01, chapters "States", "Refusal numbers" and "Entries".
 use Prim.Native.Nat.{ℕ, _+_}
 use mathlib.Core.Path.{_≡_}
 use mathlib.Core.Bool.{cond}

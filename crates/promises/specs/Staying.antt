@@ -1,5 +1,5 @@
--- What entries read later, for all entries and every list of calls: what only an accepted write or a reset changes, and what
--- "save", "load" and the two resets leave, from what each entry read before. 01, chapters "Entries" and "States".
+-- What entries read later, for all entries and every list of calls: what only an accepted write or a reset changes, and
+-- what "save", "load" and the two resets leave, from what each entry read before. 01, chapters "Entries" and "States".
 use Prim.Native.Nat.{ℕ, _+_}
 use lib.Dec.{eqb}
 use mathlib.Core.Path.{_≡_}

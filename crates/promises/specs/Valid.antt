@@ -1,5 +1,5 @@
--- A valid head. "Every head comes from power-up and is altered by calls only; the promises are for such heads, and power-up and
--- each call are proved to leave one": 01, chapter "The head and its neighbours".
+-- A valid head. "Every head comes from power-up and is altered by calls only; the promises are for such
+-- heads, and power-up and each call are proved to leave one": 01, chapter "The head and its neighbours".
 use Prim.Native.Nat.{ℕ, _<_, _≤_}
 use mathlib.Core.Path.{_≡_}
 use mathlib.Core.Bool.{Bool, true, _||_}

@@ -1,5 +1,5 @@
--- Which calls take a kind from the line unsent: 01's list "Withdrawals, and no others", one clause for each of its lines. Chapter
--- "The waiting line".
+-- Which calls take a kind from the line unsent: 01's list "Withdrawals, and
+-- no others", one clause for each of its lines. Chapter "The waiting line".
 use Prim.Native.Nat.{ℕ, _≤_}
 use mathlib.Core.Path.{_≡_}
 use mathlib.Core.Bool.{true, false}

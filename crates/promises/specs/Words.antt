@@ -1,6 +1,5 @@
--- The terms in which the theorems state their conditions, in 01's own numbers and for one call: a head that comes from power-up
--- and calls, a command, a SYNC, what is due, an accepted write, which call changes what. So no theorem is about fewer heads or
--- calls than 01.
+-- The terms in which the theorems state their conditions, in 01's own numbers and for one call: a head that comes from power-up and
+-- calls, a command, a SYNC, what is due, an accepted write, which call changes what. So no theorem is about fewer heads or calls than 01.
 use Prim.Native.Nat.{ℕ, suc, _<_, _≤_}
 use lib.Dec.{eqb}
 use lib.ListN.{getD}

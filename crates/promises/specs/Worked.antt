@@ -1,5 +1,5 @@
--- 01's chapter "Worked numbers" by calls from power-up: P1 to P12 at node 1, Pre-operational, factory settings; and the session
--- printed there.
+-- 01's chapter "Worked numbers" by calls from power-up: P1 to P12 at node
+-- 1, Pre-operational, factory settings; and the session printed there.
 use Prim.Native.Nat.{ℕ}
 use mathlib.Core.Path.{_≡_}
 use mathlib.Core.Bool.{Bool, true, false}

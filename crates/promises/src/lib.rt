@@ -1,4 +1,4 @@
-//! What the head's calls mean, and the promises about every sequence of them.
+//! What the head's calls mean, and the promises about every sequence of calls. Definitions and theorems, no code.
 
 ghost use Rattle.promises.specs.Demand1.{Demand1};
 ghost use Rattle.promises.specs.Demand2.{Demand2};

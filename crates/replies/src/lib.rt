@@ -1,4 +1,4 @@
-//! The reply's bytes, and what a request does.
+//! Builds the reply's eight bytes, and says what the request does: 01, "Service requests".
 ghost use mathlib.Core.Path.{_≡_};
 ghost use Rattle.sdo.specs.Reply.{framed as framedBy, command, noReply, aborted, confirmed, shownReply};
 use can::Bytes;

@@ -1,4 +1,4 @@
-//! A request taken apart.
+//! Takes a request's eight bytes apart: a read, a write, or an unknown command. 01, "Service requests".
 ghost use mathlib.Core.Path.{_≡_};
 ghost use Rattle.sdo.specs.Request.{isAbort, indexOf, dataOf, saidLength, takenApart};
 use can::Bytes;

@@ -1,5 +1,5 @@
--- A run of node 1 from power-up: the reading goes missing while several frames wait. It meets the conditions of `Gap` and
--- `Emergency` of crate promises, and shows what is then sent. 01, chapter "The waiting line".
+-- A run of node 1 from power-up: the reading goes missing while several frames wait. It meets the conditions
+-- of `Gap` and `Emergency` of crate promises, and shows what is then sent. 01, chapter "The waiting line".
 use lib.ListN.{replicate}
 use mathlib.Core.Path.{_≡_}
 use mathlib.Core.Bool.{true, false}

@@ -1,5 +1,5 @@
--- The states of node 1, and what its heartbeat and its position frames then say. These runs meet the conditions of `Codes` of
--- crate promises. 01, chapters "States" and "The waiting line".
+-- The states of node 1, and what its heartbeat and its position frames then say. These runs meet
+-- the conditions of `Codes` of crate promises. 01, chapters "States" and "The waiting line".
 use Prim.Native.Nat.{ℕ, _+_}
 use mathlib.Core.Path.{_≡_}
 use mathlib.Core.Bool.{true, false}

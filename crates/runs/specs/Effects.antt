@@ -1,5 +1,5 @@
--- A head, made by calls from power-up, that takes a write to every rw entry, and requests that it aborts and answers. It meets
--- the conditions of `ServedRightly` of crate promises. 01, chapters "Entries" and "Service requests".
+-- A head, made by calls from power-up, that takes a write to every rw entry, and requests that it aborts and answers.
+-- It meets the conditions of `ServedRightly` of crate promises. 01, chapters "Entries" and "Service requests".
 use Prim.Native.Nat.{ℕ, _+_, _/_, _%_}
 use mathlib.Core.Path.{_≡_}
 use mathlib.Core.Bool.{true}

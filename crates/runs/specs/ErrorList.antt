@@ -1,5 +1,5 @@
--- Five losses, of which 1003h keeps four, and an emptied list. This run meets the conditions of `ErrorList` of crate promises.
--- 01, chapter "Entries".
+-- Five losses, of which 1003h keeps four, and an emptied list. This run meets
+-- the conditions of `ErrorList` of crate promises. 01, chapter "Entries".
 use mathlib.Core.Path.{_≡_}
 use mathlib.Core.List.{List, [], _∷_, _++_}
 use mathlib.Core.Option.{some}

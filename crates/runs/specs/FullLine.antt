@@ -1,6 +1,6 @@
--- A run from power-up after which all five kinds wait: the last of them leaves at the fifth slot although a busy master floods
--- the head, and each of 01's withdrawals takes what it names and no more. It meets the conditions of `FiveSlots` of crate
--- promises. 01, chapter "The waiting line".
+-- A run from power-up after which all five kinds wait: the last of them leaves at the fifth slot
+-- although a busy master floods the head, and each of 01's withdrawals takes what it names and no
+-- more. It meets the conditions of `FiveSlots` of crate promises. 01, chapter "The waiting line".
 use Prim.Native.Nat.{ℕ}
 use mathlib.Core.Path.{_≡_}
 use mathlib.Core.List.{List, [], _∷_, _++_}

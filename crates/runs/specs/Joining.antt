@@ -1,5 +1,5 @@
--- Runs of node 1 from power-up in which the heartbeat and the PDOs join at their moments. They meet the conditions of `Moments`
--- and `PassedOver` of crate promises, and show what then waits. 01, chapter "The waiting line".
+-- Runs of node 1 from power-up in which the heartbeat and the PDOs join at their moments. They meet the conditions
+-- of `Moments` and `PassedOver` of crate promises, and show what then waits. 01, chapter "The waiting line".
 use Prim.Native.Nat.{ℕ}
 use lib.ListN.{replicate}
 use mathlib.Core.Path.{_≡_}

@@ -1,5 +1,5 @@
--- "save" and "load", followed by other calls and a reset. These runs meet the conditions of `Resets` of crate promises. 01,
--- chapters "States" and "Entries".
+-- "save" and "load", followed by other calls and a reset. These runs meet the
+-- conditions of `Resets` of crate promises. 01, chapters "States" and "Entries".
 use Prim.Native.Nat.{ℕ}
 use mathlib.Core.Path.{_≡_}
 use mathlib.Core.List.{List, [], _∷_, _++_}

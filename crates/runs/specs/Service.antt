@@ -1,5 +1,5 @@
--- Requests to node 1, answered one after another. This run meets the conditions of `Service` of crate promises. 01, chapter
--- "Service requests".
+-- Requests to node 1, answered one after another. This run meets the
+-- conditions of `Service` of crate promises. 01, chapter "Service requests".
 use Prim.Native.Nat.{ℕ}
 use mathlib.Core.Path.{_≡_}
 use mathlib.Core.Bool.{true}

@@ -1,5 +1,5 @@
--- A setting that a reset restores, and a node number that is refused. They meet the conditions of `Starts` of crate promises. 01,
--- chapters "States" and "Refusal numbers".
+-- A setting that a reset restores, and a node number that is refused. They meet the
+-- conditions of `Starts` of crate promises. 01, chapters "States" and "Refusal numbers".
 use mathlib.Core.Path.{_≡_}
 use mathlib.Core.Option.{some}
 use Rattle.dictionary.specs.declared.read.Shown.the-variants.{Number}

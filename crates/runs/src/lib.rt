@@ -1,4 +1,4 @@
-//! Runs of node 1 by calls from power-up. They meet what the promises ask for, and show what is then sent.
+//! Example runs of node 1, by calls from power-up. They meet the conditions of the promises, and show what is then sent. No code.
 
 ghost use Rattle.runs.specs.Busy.{Busy};
 ghost use Rattle.runs.specs.Codes.{CodesMet};

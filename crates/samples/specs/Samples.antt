@@ -1,5 +1,5 @@
--- What a sample changes in the parts of a head, as the code computes it: 01, chapters "States" and "The waiting line". Reviewers
--- can skip this file: proofs/Samples.antt proves that the head with these parts is what `promises` says.
+-- What a sample changes in the parts of a head, as the code computes it: 01, chapters "States" and "The waiting line".
+-- Reviewers can skip this file: proofs/Samples.antt proves that the head with these parts is what `promises` says.
 use Prim.Native.Nat.{ℕ, suc}
 use lib.Dec.{eqb, ltb}
 use mathlib.Core.Bool.{Bool, true, false, not, _&&_, cond}

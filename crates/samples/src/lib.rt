@@ -1,4 +1,4 @@
-//! Samples: the reading, the error list's count, the line.
+//! What a sample changes: the reading, the count of the error list, the waiting line. 01, "States" and "The waiting line".
 ghost use mathlib.Core.Path.{_≡_};
 ghost use Rattle.parts.specs.declared.Sensor.the-variants.{Raw};
 ghost use Rattle.promises.specs.Calls.{badSample};

@@ -1,5 +1,5 @@
--- The abort codes of steps 1 to 4 and 7 of "First that applies" in 01, chapter "Service requests". Where an answer is an enum, a
--- definition gives the code of each of its cases, 0 for none.
+-- The abort codes of steps 1 to 4 and 7 of "First that applies" in 01, chapter "Service requests".
+-- Where an answer is an enum, a definition gives the code of each of its cases, 0 for none.
 use Prim.Native.Nat.{ℕ}
 use Rattle.entries.specs.declared.table.Found.{Found}
 use Rattle.entries.specs.declared.table.Found.the-variants.{At, NoSubIndex, NoIndex}

@@ -1,6 +1,5 @@
--- When each reply is due: 01, chapter "Service requests", in its words and numbers, over the bytes of a request and the rows of
--- the table. These laws check how a request is taken apart (Request) and in which order the steps are tried (Service), so they
--- use neither.
+-- When each reply is due: 01, chapter "Service requests", in its words and numbers, over the bytes of a request and the rows of the
+-- table. These laws check how a request is taken apart (Request) and in which order the steps are tried (Service), so they use neither.
 use Prim.Native.Nat.{ℕ, _+_, _*_, _-_, _/_, _%_, _<_}
 use lib.ListN.{getD, take}
 use mathlib.Core.Path.{_≡_}

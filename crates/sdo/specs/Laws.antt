@@ -1,5 +1,5 @@
--- Laws for every request to every device: when each reply is due, what a value and a confirmation tell, the bytes of the reply,
--- and what a request leaves unchanged. Bytes are given by place and number, as in 01, chapter "Service requests".
+-- Laws for every request to every device: when each reply is due, what a value and a confirmation tell, the bytes of the
+-- reply, and what a request leaves unchanged. Bytes are given by place and number, as in 01, chapter "Service requests".
 use Prim.Native.Nat.{ℕ, _-_, _/_, _%_, _<_}
 use lib.ListN.{length, getD, drop, replicate}
 use mathlib.Core.Path.{_≡_}

@@ -1,5 +1,5 @@
--- The reply to a request, "8 bytes, bytes 1..3 of the request repeated, unused bytes 0", and what the request does. 01, chapter
--- "Service requests".
+-- The reply to a request, "8 bytes, bytes 1..3 of the request repeated,
+-- unused bytes 0", and what the request does. 01, chapter "Service requests".
 use Prim.Native.Nat.{ℕ}
 use lib.Dec.{eqb}
 use mathlib.Core.Bool.{Bool, true, false, cond}

@@ -1,5 +1,5 @@
--- The service in the steps that the code takes: the request is taken apart, the entry is looked up, and one abort code decides, 0
--- for none. 01, chapter "Service requests".
+-- The service in the steps that the code takes: the request is taken apart, the entry
+-- is looked up, and one abort code decides, 0 for none. 01, chapter "Service requests".
 use Prim.Native.Nat.{ℕ}
 use lib.Dec.{eqb, ltb}
 use mathlib.Core.Bool.{Bool, cond}

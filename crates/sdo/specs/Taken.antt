@@ -1,5 +1,5 @@
--- "A request taken apart is a read, a write, or a reason to abort": stated with the request's bytes and the numbers of its enums.
--- 01, chapter "Service requests".
+-- "A request taken apart is a read, a write, or a reason to abort": stated with the
+-- request's bytes and the numbers of its enums. 01, chapter "Service requests".
 use Prim.Native.Nat.{ℕ, _+_, _*_, _-_, _/_, _%_}
 use lib.ListN.{getD}
 use mathlib.Core.Path.{_≡_}

@@ -1,4 +1,5 @@
-//! The expedited SDO server: a request's eight bytes, the reply due, and what the write does. Types and laws; the code is in crates above.
+//! The expedited SDO server: a request's eight bytes, the reply due, and what the write
+//! does (01, "Service requests"). Types, definitions and laws; crates above have the code.
 ghost use mathlib.Core.Bool.{Bool};
 ghost use mathlib.Core.List.{List};
 ghost use Prim.Native.Nat.{ℕ};

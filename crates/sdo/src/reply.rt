@@ -1,4 +1,4 @@
-//! The reply's bytes, and what a request does.
+//! The types of a reply and of what a request does.
 use can::Bytes;
 
 // What a request does: nothing at all, its reply waits, or its reply waits and an entry, named by its key, gets a value.

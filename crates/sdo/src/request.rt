@@ -1,4 +1,4 @@
-//! A request taken apart.
+//! The types of a request that is taken apart.
 // `length` is 0 where the request leaves it to the entry.
 pub enum Access {
     Read,

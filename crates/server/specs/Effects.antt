@@ -1,5 +1,5 @@
--- What a request changes in the parts of a head: 01, chapter "Service requests". Reviewers can skip this file: it follows the
--- code, and proofs/Requests.antt proves that the head with these parts is what `promises` says.
+-- What a request changes in the parts of a head: 01, chapter "Service requests". Reviewers can skip this file:
+-- it follows the code, and proofs/Requests.antt proves that the head with these parts is what `promises` says.
 use Prim.Native.Nat.{ℕ}
 use lib.Dec.{eqb}
 use mathlib.Core.Bool.{Bool, true, false, not, _&&_, Bool·beq, cond}

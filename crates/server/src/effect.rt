@@ -1,4 +1,4 @@
-//! A request: the reply that waits, and what a write alters.
+//! What a request changes in the parts of a head: its reply waits, and a write has its effects.
 ghost use mathlib.Core.Path.{_≡_};
 ghost use Rattle.position.specs.Profile.{ValidProfile};
 ghost use Rattle.dictionary.specs.Writes.{Fits};

@@ -1,4 +1,4 @@
-//! An SDO server: where its requests come from and its replies go, which requests it serves.
+//! The SDO server of a head: its identifiers, which requests it serves, and what they change. 01, "Service requests".
 ghost use mathlib.Core.Path.{_≡_};
 ghost use mathlib.Core.Bool.{not, _&&_};
 ghost use Prim.Native.Nat.{_+_};

@@ -1,4 +1,4 @@
-//! A write to an entry: its access, its length, its value, the state.
+//! A write to an entry: checks its access, its length, its value and the state, in this order.
 ghost use mathlib.Core.Path.{_≡_};
 ghost use Rattle.sdo.specs.Steps.{lengthCode, writeCode, rowReply};
 ghost use Rattle.sdo.specs.Service.{cutTo};

@@ -1,4 +1,4 @@
-//! The expedited SDO server: from a request's eight bytes to the reply's, and to what the write does.
+//! The expedited SDO server: from a request's eight bytes to the reply's, and to what the write does. 01, "Service requests".
 ghost use mathlib.Core.Path.{_≡_};
 ghost use Prim.Native.Nat.{_<_};
 ghost use lib.ListN.{length};

@@ -1,5 +1,4 @@
--- Which kinds join the line: those that are due and may join, from the parts of a head that decide it. 01, chapter "The waiting
--- line".
+-- Which kinds join the line: those that are due and may join, from the parts of a head that decide it. 01, chapter "The waiting line".
 use Prim.Native.Nat.{ℕ}
 use mathlib.Core.Bool.{Bool, _&&_}
 use mathlib.Core.List.{List}

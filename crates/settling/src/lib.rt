@@ -1,4 +1,4 @@
-//! Who joins the line: those whose moment it is, if they may.
+//! Which kinds join the waiting line: those that are due and may join. 01, "The waiting line".
 ghost use mathlib.Core.Path.{_≡_};
 ghost use Rattle.settling.specs.Joined.{joinedBy};
 use entries::Communication;

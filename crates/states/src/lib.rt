@@ -1,4 +1,4 @@
-//! The NMT states.
+//! Tests for the NMT state that a head is in: 01, "States".
 ghost use mathlib.Core.Path.{_≡_};
 ghost use lib.Dec.{eqb};
 ghost use Rattle.promises.specs.States.{initialisingCode, code, CommandedState, live};

@@ -1,5 +1,5 @@
--- The head after each way that a received frame can go: the parts that its step gives, put back. 01, chapters "States" and
--- "Service requests".
+-- The head after each way that a received frame can go: the parts that
+-- its step gives, put back. 01, chapters "States" and "Service requests".
 use Prim.Native.Nat.{ℕ}
 use lib.Dec.{eqb}
 use mathlib.Core.List.{[], _∷_}

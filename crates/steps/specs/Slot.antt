@@ -1,6 +1,5 @@
--- What a slot answers, which way it goes, and what sending changes in the parts of a head, as the code computes it: 01, chapter
--- "The waiting line". Reviewers can skip this file: proofs/Slots.antt proves that the head with these parts is what `promises`
--- says.
+-- What a slot answers, which way it goes, and what sending changes in the parts of a head, as the code computes it: 01, chapter "The
+-- waiting line". Reviewers can skip this file: proofs/Slots.antt proves that the head with these parts is what `promises` says.
 use Prim.Native.Nat.{ℕ, _+_}
 use lib.Dec.{eqb}
 use mathlib.Core.Bool.{Bool, not, _&&_, cond}

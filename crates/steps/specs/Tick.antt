@@ -1,5 +1,5 @@
--- What a tick changes in the parts of a head, as the code computes it, and which way it goes: 01, chapter "The waiting line".
--- Reviewers can skip this file: proofs/Ticks.antt proves that the head with these parts is what `promises` says.
+-- What a tick changes in the parts of a head, as the code computes it, and which way it goes: 01, chapter "The waiting
+-- line". Reviewers can skip this file: proofs/Ticks.antt proves that the head with these parts is what `promises` says.
 use Prim.Native.Nat.{ℕ, _-_}
 use lib.Dec.{eqb}
 use mathlib.Core.Bool.{Bool, true, false, not, _||_, cond, Bool·beq}

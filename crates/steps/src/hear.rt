@@ -1,4 +1,4 @@
-//! A received frame told apart: refused, passing, a SYNC, a command, a request.
+//! Tells a received frame apart: refused, without effect, a SYNC, a command, or a request.
 ghost use mathlib.Core.Path.{_≡_};
 ghost use Rattle.position.specs.Profile.{ValidProfile};
 ghost use Rattle.steps.specs.Hear.{passingBy, syncWay, orderWay, orderedBy, writeWay, replyingBy, servedBy, requestedBy, heardBy};

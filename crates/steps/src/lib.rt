@@ -1,5 +1,6 @@
-//! What a tick, a slot and a received frame do to the parts of a head that they may alter. A step takes the parts that it needs and gives back those that it
-//! alters; the call puts them into the head, once. Where a call has several ways, its first step says which one by a number, 0 for none.
+//! What a tick, a slot and a received frame change in the parts of a head: 01, "States" and "The waiting
+//! line". A step takes the parts that it needs and gives back those that it changes; the call then stores them
+//! in the head, once. Where a call can go several ways, its first step answers the way's number, 0 for none.
 
 ghost use Rattle.steps.specs.Passes.{Laws};
 

@@ -1,4 +1,4 @@
-//! A slot: the frame that is sent, and what sending it alters.
+//! A slot: the frame that it sends, and what sending it changes.
 ghost use mathlib.Core.Path.{_≡_};
 ghost use Prim.Native.Nat.{_≤_};
 ghost use Rattle.position.specs.Profile.{ValidProfile};

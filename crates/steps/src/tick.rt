@@ -1,4 +1,4 @@
-//! A tick: what is counted, and whose moment it is.
+//! A tick: what it counts, and which kinds are then due.
 ghost use mathlib.Core.Path.{_≡_};
 ghost use Rattle.steps.specs.Tick.{tickedOf, tickWay};
 use entries::Communication;

@@ -1,6 +1,5 @@
--- The forms of a line, stated over its bytes: 01, chapter "Worked numbers", "Session program". These relations use none of the
--- definitions of Lines, Grammar and Printed. `Forms` states that those definitions give these lines, these numbers and these
--- texts, and no others.
+-- The forms of a line, stated over its bytes: 01, chapter "Worked numbers", "Session program". These relations use none of the definitions
+-- of Lines, Grammar and Printed. `Forms` states that those definitions give these lines, these numbers and these texts, and no others.
 use Prim.Native.Nat.{ℕ, suc, _+_, _*_, _-_, _≤_, _<_}
 use mathlib.Core.Path.{_≡_}
 use mathlib.Core.List.{List, [], _∷_, _++_}

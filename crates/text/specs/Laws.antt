@@ -1,6 +1,5 @@
 -- `Laws`: what holds for every input and every printed text. 01, chapter "Worked numbers", "Session program".
--- No line is lost or made up, no short enough line loses a byte, a number is within its bounds, and a printed frame can be read
--- again.
+-- No line is lost or made up, no short enough line loses a byte, a number is within its bounds, and a printed frame can be read again.
 use Prim.Native.Nat.{ℕ, _≤_}
 use mathlib.Core.Path.{_≡_}
 use mathlib.Core.List.{List, [], _∷_, _++_, map}

@@ -1,5 +1,5 @@
--- Examples of lines: those of the session in 01's chapter "Worked numbers", as read and as printed; and lines that are just of
--- their form, or just not.
+-- Examples of lines: those of the session in 01's chapter "Worked numbers",
+-- as read and as printed; and lines that are just of their form, or just not.
 use Prim.Native.Nat.{ℕ}
 use mathlib.Core.Path.{_≡_}
 use mathlib.Core.Bool.{true, false}

@@ -1,4 +1,5 @@
-//! The session program's text: what a line says, how one is gathered byte by byte, what is printed.
+//! The text of the session program: what a line says, how a line is gathered byte by
+//! byte, what is printed. 01, "Worked numbers". Types, definitions and laws, no code.
 use can::Bytes;
 ghost use Rattle.text.specs.Forms.{Forms};
 ghost use Rattle.text.specs.Laws.{Laws};

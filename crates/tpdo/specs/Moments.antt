@@ -1,5 +1,5 @@
--- What a PDO counts, and whether it is due: a tick counts in Operational, and a SYNC counts there for a PDO that is on and
--- synchronous. 01, chapter "The waiting line".
+-- What a PDO counts, and whether it is due: a tick counts in Operational, and a SYNC
+-- counts there for a PDO that is on and synchronous. 01, chapter "The waiting line".
 use Prim.Native.Nat.{ℕ}
 use mathlib.Core.Bool.{Bool, not, _&&_, cond}
 use Rattle.entries.specs.declared.Pdo.{Pdo}

@@ -1,5 +1,5 @@
--- What a SYNC in Operational changes in the parts of a head: 01, chapter "The waiting line". Reviewers can skip this file:
--- proofs/Synchronised.antt proves that the head with these parts is what `promises` says.
+-- What a SYNC in Operational changes in the parts of a head: 01, chapter "The waiting line". Reviewers can
+-- skip this file: proofs/Synchronised.antt proves that the head with these parts is what `promises` says.
 use Prim.Native.Nat.{ℕ}
 use mathlib.Core.Bool.{Bool, _&&_}
 use mathlib.Core.List.{List}

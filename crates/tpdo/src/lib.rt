@@ -1,4 +1,4 @@
-//! The transmit PDOs: their types, what is counted of them, when it is their moment, their frame; SYNC.
+//! The transmit PDOs and SYNC: PDO types, what a PDO counts, when it is due, its frame. 01, "The waiting line".
 ghost use mathlib.Core.Path.{_≡_};
 ghost use Rattle.can.specs.Number.{lowFirst};
 ghost use Rattle.position.specs.Position.{position};

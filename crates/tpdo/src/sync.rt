@@ -1,4 +1,4 @@
-//! SYNC reception.
+//! What a received SYNC changes.
 ghost use mathlib.Core.Path.{_≡_};
 ghost use Rattle.tpdo.specs.Sync.{syncedBy};
 use crate::may_join;

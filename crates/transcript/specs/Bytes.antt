@@ -1,5 +1,4 @@
--- The session byte by byte, as the calls take the input: what each call has to answer. 01, chapter "Worked numbers", "Session
--- program".
+-- The session byte by byte, as the calls take the input: what each call has to answer. 01, chapter "Worked numbers", "Session program".
 -- Law `whole` states that this prints what Talk prints line by line.
 use Prim.Native.Nat.{ℕ, _+_, _≤_}
 use Prim.Native.Char.{code}

@@ -1,7 +1,6 @@
--- What a command does to the head and what it prints: 01, chapter "Worked numbers", "Session program", and refusal 9 of chapter
--- "Refusal numbers".
--- A command is what a line says (`text`, specs/Grammar.antt). `promises`, specs/Calls.antt, defines what the head does and
--- answers.
+-- What a command does to the head and what it prints: 01, chapter "Worked
+-- numbers", "Session program", and refusal 9 of chapter "Refusal numbers".
+-- A command is what a line says (`text`, specs/Grammar.antt). `promises`, specs/Calls.antt, defines what the head does and answers.
 use Prim.Native.Nat.{ℕ, zero, suc}
 use mathlib.Core.Bool.{false, cond}
 use mathlib.Core.List.{List, []}

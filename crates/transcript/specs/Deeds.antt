@@ -1,6 +1,6 @@
--- What each line asks of the head and what it prints, from the line's bytes (`text`, specs/Forms.antt) and the calls (`promises`,
--- specs/Calls.antt): 01, chapter "Worked numbers", "Session program". `Deeds` states this for `reply`, `talk` and `transcript`,
--- and states which head a session starts with.
+-- What each line asks of the head and what it prints, from the line's bytes (`text`, specs/Forms.antt)
+-- and the calls (`promises`, specs/Calls.antt): 01, chapter "Worked numbers", "Session program". `Deeds`
+-- states this for `reply`, `talk` and `transcript`, and states which head a session starts with.
 use Prim.Native.Nat.{ℕ, _≤_, _<_}
 use mathlib.Core.Path.{_≡_}
 use mathlib.Core.Bool.{false}

@@ -1,5 +1,5 @@
--- `Laws`: what holds for every input. The calls print byte by byte what 01 prints line by line, wherever the input is cut into
--- chunks, and each call leaves a valid head. 01, chapter "Worked numbers", "Session program".
+-- `Laws`: what holds for every input. The calls print byte by byte what 01 prints line by line, wherever the
+-- input is cut into chunks, and each call leaves a valid head. 01, chapter "Worked numbers", "Session program".
 use Prim.Native.Nat.{ℕ, _≤_, _<_}
 use mathlib.Core.Path.{_≡_}
 use mathlib.Core.List.{List, _++_}

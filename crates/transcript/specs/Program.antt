@@ -1,5 +1,5 @@
--- The whole program, from what its calls promise (specs/Promised.antt): starting, passing on the input byte by byte or in chunks,
--- and closing prints the transcript. 01, chapter "Worked numbers", "Session program": standard input to output.
+-- The whole program, from what its calls promise (specs/Promised.antt): starting, passing on the input byte by byte or in
+-- chunks, and closing prints the transcript. 01, chapter "Worked numbers", "Session program": standard input to output.
 use Prim.Native.Nat.{ℕ}
 use mathlib.Core.Path.{_≡_}
 use mathlib.Core.List.{List, [], _∷_, _++_}

@@ -1,5 +1,5 @@
--- What each call of a session promises: its answer is the one in specs/Bytes.antt, and it leaves a valid head. The contracts of
--- crate feeding are these promises. 01, chapter "Worked numbers", "Session program".
+-- What each call of a session promises: its answer is the one in specs/Bytes.antt, and it leaves a valid
+-- head. The contracts of crate feeding are these promises. 01, chapter "Worked numbers", "Session program".
 use Prim.Native.Nat.{ℕ}
 use mathlib.Core.Path.{_≡_}
 use mathlib.Core.List.{List}

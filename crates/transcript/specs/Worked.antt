@@ -1,5 +1,4 @@
--- Examples of whole sessions, input bytes and output bytes: 01's own, at the end of chapter "Worked numbers", and others by its
--- rules.
+-- Examples of whole sessions, input bytes and output bytes: 01's own, at the end of chapter "Worked numbers", and others by its rules.
 use mathlib.Core.Path.{_≡_}
 use mathlib.Core.List.{_++_}
 use Rattle.text.specs.Ascii.{ascii}

@@ -1,4 +1,5 @@
-//! The session: what a line does to the head and prints, and the whole, from the input's bytes to those printed.
+//! The session: what a line does to the head and prints, and the whole output for the whole
+//! input. 01, "Worked numbers", "Session program". Types, definitions and laws, no code.
 use parts::Head;
 use text::Line;
 ghost use Rattle.transcript.specs.Deeds.{Deeds};

@@ -1,4 +1,4 @@
-//! What an entry reads.
+//! What each entry reads: 01, "Entries".
 ghost use mathlib.Core.Path.{_≡_};
 ghost use mathlib.Core.Bool.{not, cond};
 ghost use Prim.Native.Nat.{_+_, _<_, _≤_};

@@ -1,5 +1,5 @@
--- What one call does to the line: a slot sends the first kind; then the kinds `out` are withdrawn and the kinds `into` join. 01,
--- chapter "The waiting line".
+-- What one call does to the line: a slot sends the first kind; then the kinds
+-- `out` are withdrawn and the kinds `into` join. 01, chapter "The waiting line".
 -- `after` states this for the line, `afterIn` for the places that hold it.
 use Prim.Native.Nat.{ℕ, _-_, _<_, _≤_}
 use mathlib.Core.Bool.{Bool, false, cond}

@@ -1,7 +1,7 @@
 -- Laws of the waiting line: 01, chapter "The waiting line".
 -- `Lines`: what one join, one withdrawal and one slot do to it.
--- `Laws`: what holds after every call, for any number n of kinds. There is room, the places hold the line, the order is kept, and
--- it is known who waits.
+-- `Laws`: what holds after every call, for any number n of kinds. There is
+-- room, the places hold the line, the order is kept, and it is known who waits.
 -- `InTurn`: kinds that are due in one call join in the order given.
 use Prim.Native.Nat.{ℕ, _<_, _≤_}
 use mathlib.Core.Path.{_≡_}

@@ -1,7 +1,6 @@
--- The line in its places, "a small array of kind numbers": 01, chapter "Which form belongs where". 0 is an empty place, and empty
--- places come after the waiting kinds.
--- Each function does what its namesake in specs/Line.antt does, for every list of places, so no call has to require a proper
--- line.
+-- The line in its places, "a small array of kind numbers": 01, chapter "Which form
+-- belongs where". 0 is an empty place, and empty places come after the waiting kinds.
+-- Each function does what its namesake in specs/Line.antt does, for every list of places, so no call has to require a proper line.
 use Prim.Native.Nat.{ℕ}
 use mathlib.Core.Path.{_≡_}
 use mathlib.Core.Bool.{cond}

@@ -1,5 +1,4 @@
--- The smallest head: a line, and calls that are slots or that withdraw some kinds and let others join. 01, chapter "The waiting
--- line".
+-- The smallest head: a line, and calls that are slots or that withdraw some kinds and let others join. 01, chapter "The waiting line".
 -- In it a waiting kind leaves by the n-th slot, for any n. An example shows a kind that does.
 use Prim.Native.Nat.{ℕ}
 use mathlib.Core.Path.{_≡_}

@@ -1,5 +1,4 @@
--- A frame that waits leaves: definitions for every list of calls and any head, seen as its waiting line. 01, chapter "The waiting
--- line".
+-- A frame that waits leaves: definitions for every list of calls and any head, seen as its waiting line. 01, chapter "The waiting line".
 --     Machine, Sound     what a head must tell: its line, which of its calls are slots, and what each call does to the line
 --     runs               the head after a list of calls
 --     sent               what the slots of a list of calls sent: one kind for each slot in order, 0 for none

@@ -1,4 +1,4 @@
-//! The waiting line: the kinds of frames that wait, first to last.
+//! The waiting line: the kinds of frames that wait, first to last. 01, "The waiting line".
 
 ghost use mathlib.Core.Path.{_≡_};
 ghost use mathlib.Core.Bool.{_||_, cond};

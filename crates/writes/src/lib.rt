@@ -1,4 +1,4 @@
-//! What an accepted write does.
+//! What an accepted write changes in the settings: 01, "Entries" and "Position".
 ghost use mathlib.Core.Path.{_≡_};
 ghost use mathlib.Core.Bool.{cond};
 ghost use Rattle.position.specs.Profile.{ValidProfile};
