@@ -21,7 +21,7 @@ use Rattle.dictionary.specs.AbortCodes.{invalidValue, wrongSignature, de
 abbrev pub on : ℕ → Bool
 on identifier = not (bit 31 identifier)
 
--- of node n: 80h+N; that, or that with bit 31
+-- for node n: 80h+N; that, or that with bit 31
 abbrev pub emergencyIdentifier : ℕ → ℕ → Bool
 emergencyIdentifier n v = eqb (v % 0x80000000) (0x80 + n)
 
@@ -37,7 +37,7 @@ transmissionType v = within 1 240 v || within 254 255 v
 abbrev pub operatingParameters : ℕ → Bool
 operatingParameters v = eqb (v % 4) 0 && eqb (v / 16) 0
 
--- What an entry accepts, of node n and range t.
+-- What an entry accepts, for node n and range t.
 abbrev pub accepts : Accepted → ℕ → ℕ → ℕ → Bool
 accepts Nothing n t v = false
 accepts All n t v = true
@@ -89,7 +89,7 @@ barred d k v =
 abbrev pub acceptsIn : Device → Row → ℕ → Bool
 acceptsIn d r v = accepts (accepted r) (d .node) (d .settings .profile .range) v
 
--- The abort code that is due to a write of v to the entry of a row, for its value and then for the state; 0 for none.
+-- The abort code due to a write of v to the entry of a row: first for the value, then for the state; 0 for none.
 unfoldable pub abortCode : Device → Row → ℕ → ℕ
 abortCode d r v =
     firstOf (

@@ -12,14 +12,14 @@ use Rattle.entries.specs.declared.table.Found.the-variants.{At, NoSubIndex, NoI
 use Rattle.entries.specs.Table.{table, rowAt, index, sub, width, isRw, accepted, key, lookup}
 use Rattle.dictionary.specs.Accepted.{isSignature, acceptsIn, barred, abortCode}
 
--- An rw entry: index, sub-index, bytes, and what holds of v exactly if it is accepted.
+-- An rw entry: index, sub-index, bytes, and the condition under which it accepts v.
 abbrev pub Line : Type 1
 Line = ℕ × ℕ × ℕ × Type 0
 
 abbrev all : Type 0
 all = Unit {0}
 
--- of node n: 80h+N; that, or that with bit 31
+-- for node n: 80h+N; that, or that with bit 31
 abbrev pub IdentifiesEmergency : ℕ → ℕ → Type 0
 IdentifiesEmergency n v = (v ≡ 0x80 + n) ⊎ (v ≡ 0x80 + n + 0x80000000)
 
@@ -35,7 +35,7 @@ IsType v = ((1 ≤ v) × (v ≤ 240)) ⊎ (v ≡ 254) ⊎ (v ≡ 255)
 abbrev pub IsOperating : ℕ → Type 0
 IsOperating v = (v ≡ 0) ⊎ (v ≡ 4) ⊎ (v ≡ 8) ⊎ (v ≡ 12)
 
--- 01's rw entries in its order, of node n while 6002h is t.
+-- 01's rw entries in its order, for node n while 6002h is t.
 abbrev pub acceptedValues : ℕ → ℕ → ℕ → List Line
 acceptedValues n t v =
     -- only 0 accepted
@@ -72,7 +72,7 @@ acceptsOf d v (At p) = acceptsIn d (rowAt p) v
 acceptsOf d v NoSubIndex = false
 acceptsOf d v NoIndex = false
 
--- The entry of each line accepts exactly what the line says, of the numbers of its length.
+-- Among the numbers of its length, the entry of each line accepts exactly those that the line says.
 abbrev pub AcceptEach : Device → ℕ → List Line → Type 0
 AcceptEach d v [] = Unit {0}
 AcceptEach d v (l ∷ ls) = (v < 256 ^ (l .2) → (acceptsOf d v (lookup (l .0) (l .1)) ≡ true) ↔ l .3) × AcceptEach d v ls
@@ -94,13 +94,13 @@ Bars d k v =
     ⊎ HeldBy (d .settings .communication .pdo1) 0x1800_01 0x1800_02 k v
     ⊎ HeldBy (d .settings .communication .pdo2) 0x1801_01 0x1801_02 k v
 
--- A number, and the identifiers that are held, have 32 bits.
+-- The number, and the identifiers that the device holds, have 32 bits.
 pub record Words (d : Device) (v : ℕ) : Type 0 where
   pub its-value : v < 0x100000000
   pub pdo1 : d .settings .communication .pdo1 .identifier < 0x100000000
   pub pdo2 : d .settings .communication .pdo2 .identifier < 0x100000000
 
--- The code of a write of v to the entry at place p, each exactly when it is due.
+-- The abort code for a write of v to the entry at place p: each code exactly when it is due.
 pub record Coded (d : Device) (p v : ℕ) : Type 0 where
   -- 5. value: 0609 0030h; for 1010-1, 1011-1 a wrong signature 0800 0020h
   pub invalid-value : (abortCode d (rowAt p) v ≡ 0x06090030) ↔ ((acceptsIn d (rowAt p) v ≡ false) × (HasSignature (key (rowAt p)) → ⊥))
@@ -111,7 +111,7 @@ pub record Coded (d : Device) (p v : ℕ) : Type 0 where
   pub free : (abortCode d (rowAt p) v ≡ 0) ↔ ((acceptsIn d (rowAt p) v ≡ true) × (Bars d (key (rowAt p)) v → ⊥))
 
 pub record AcceptedLaws : Type 0 where
-  -- The lines are the rw entries of the table, all of them, in its order.
+  -- The lines are all the rw entries of the table, in its order.
   pub all-of-them : (n t v : ℕ)
       → map {B = ℕ × ℕ × ℕ} (λ l. (l .0, l .1, l .2)) (acceptedValues n t v) ≡ map (λ r. (index r, sub r, width r)) (those isRw table)
   pub values : (d : Device) (v : ℕ) → 1 ≤ d .node → d .node ≤ 127

@@ -20,7 +20,7 @@ use Rattle.dictionary.specs.Writes.{rangeFor, rescaledTo, written}
 use Rattle.dictionary.specs.Valid.{ValidDevice}
 use Rattle.dictionary.specs.Laws.{Takes}
 
--- what a list has for the key k; a where it has nothing
+-- what the list has for the key k, or a if it has nothing
 abbrev pub given : {A : Type 0} → List (ℕ × A) → ℕ → A → A
 given [] k a = a
 given (e ∷ es) k a = cond (eqb k (e .0)) (e .1) (given es k a)
@@ -31,7 +31,7 @@ rescaled d operating range step =
     let position′ = position (rescaledTo operating range step) (d .reading .raw) in
     (0x6003_00, Number 0) ∷ (0x6509_00, Number 0) ∷ (0x6004_00, cond (missing d) Blank (Number position′)) ∷ []
 
--- For a write of v: by the entry written the entries that read anew, and what, of a device that is Operational or not.
+-- For a write of v to each entry: which entries then read something new, and what. The device may be Operational or not.
 abbrev pub named : Device → Bool → ℕ → List (ℕ × List (ℕ × Shown))
 named d o v =
     let p = d .settings .profile in
@@ -53,11 +53,11 @@ named d o v =
     (0x6003_00, (0x6003_00, Number v) ∷ (0x6509_00, Number (twos (pos v -ℤ pos (directed p (d .reading .raw))))) ∷ (0x6004_00, Number v) ∷ []) ∷
     []
 
--- The effects of a write of v to the entry of key k; where none is named, that entry reads v.
+-- The effects of a write of v to the entry of key k. If the list names none, that entry reads v.
 abbrev pub effects : Device → Bool → ℕ → ℕ → List (ℕ × Shown)
 effects d o k v = given (named d o v) k ((k, Number v) ∷ [])
 
--- read anew where it is named, and else as before
+-- the new value if the list names the entry, else as before
 abbrev pub anew : List (ℕ × Shown) → ℕ → Option Shown → Option Shown
 anew es k none = none
 anew es k (some s) = some (given es k s)

@@ -17,11 +17,11 @@ noEntry = record { row = noRow; blank = λ d. false; number = λ d o. 0 }
 abbrev pub shown : Entry → Device → Bool → Shown
 shown e d o = cond (e .blank d) Blank (Number (e .number d o))
 
--- What the entry at place p reads, of a device that is Operational or not.
+-- What the entry at place p reads, in a device that is Operational or not.
 unfoldable pub shownAt : Device → Bool → ℕ → Shown
 shownAt d o p = shown (getD entries p noEntry) d o
 
--- what the entry that is found reads; none where none is found
+-- what the entry that is found reads; none if none is found
 abbrev pub readOf : Device → Bool → Found → Option Shown
 readOf d o (At p) = some (shownAt d o p)
 readOf d o NoSubIndex = none

@@ -21,7 +21,7 @@ pub record ValidPdo (p : Pdo) : Type 0 where
   -- sub 5: U16; all
   pub event : p .event ≤ 0xFFFF
 
--- the settings below 2000h, of node n
+-- the settings below 2000h, for node n
 pub record ValidCommunication (n : ℕ) (c : Communication) : Type 0 where
   -- 1014-0
   pub emergency : emergencyIdentifier n (c .emergency) ≡ true

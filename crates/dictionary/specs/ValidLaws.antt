@@ -27,7 +27,7 @@ pub record HeldProfile (p : Profile) : Type 0 where
   -- between −(T−1) and T−1
   pub offset : natAbs (p .offset) < p .range
 
--- of node n
+-- for node n
 pub record HeldSettings (n : ℕ) (s : Settings) : Type 0 where
   pub emergency : IdentifiesEmergency n (s .communication .emergency)
   pub inhibit : s .communication .inhibit < 65536

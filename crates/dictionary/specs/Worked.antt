@@ -61,7 +61,7 @@ after d (w ∷ ws) = after (written d (w .0) (w .1)) ws
 abbrev pub Reads : Device → ℕ → ℕ → Shown → Type 0
 Reads d i j s = Shows d false i j s
 
--- what the entry that is found answers to a write of v; none where none is found
+-- what the entry that is found answers to a write of v; none if none is found
 abbrev pub abortCodeOf : Device → ℕ → Found → Option ℕ
 abortCodeOf d v (At p) = some (abortCode d (rowAt p) v)
 abortCodeOf d v NoSubIndex = none
@@ -110,7 +110,7 @@ altered = written preset 0x1017_00 1000
 abbrev pub saved : Device
 saved = written altered 0x1010_01 save
 
--- The rw entries among these rows are, in their order, those of the writes, and each takes the value.
+-- The rw entries among these rows are those of the writes, in the same order, and each takes its value.
 abbrev pub takeAll : Device → List Row → List (ℕ × ℕ) → Bool
 takeAll d [] [] = true
 takeAll d [] (w ∷ ws) = false

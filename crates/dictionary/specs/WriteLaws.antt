@@ -12,12 +12,12 @@ use Rattle.entries.specs.declared.Device.{Device}
 use Rattle.entries.specs.Settings.{factory}
 use Rattle.dictionary.specs.Writes.{written}
 
--- A write to the entry of key k makes an old number new: what stands beside k in the list; where k is none of them, it stays.
+-- A write to the entry of key k replaces an old number by the one beside k in the list. If k is not in the list, the number stays.
 abbrev pub Becomes : {A : Type 0} → ℕ → List (ℕ × A) → A → A → Type 0
 Becomes k [] old new = new ≡ old
 Becomes k (e ∷ es) old new = (k ≡ e .0 → new ≡ e .1) × ((k ≡ e .0 → ⊥) → Becomes k es old new)
 
--- the settings below 2000h, from a to b
+-- the settings below 2000h: a before the write, b after it
 pub record CommunicationWritten (k v : ℕ) (a b : Communication) : Type 0 where
   pub emergency : Becomes k ((0x1014_00, v) ∷ []) (a .emergency) (b .emergency)
   pub inhibit : Becomes k ((0x1015_00, v) ∷ []) (a .inhibit) (b .inhibit)
@@ -30,7 +30,7 @@ pub record CommunicationWritten (k v : ℕ) (a b : Communication) : Type 0 where
   pub transmission2 : Becomes k ((0x1801_02, v) ∷ []) (a .pdo2 .transmission) (b .pdo2 .transmission)
   pub event2 : Becomes k ((0x1801_05, v) ∷ []) (a .pdo2 .event) (b .pdo2 .event)
 
--- the others, at the raw position r
+-- the other settings, at the raw position r: a before the write, b after it
 pub record ProfileWritten (r k v : ℕ) (a b : Profile) : Type 0 where
   pub operating : Becomes k ((0x6000_00, v) ∷ []) (a .operating) (b .operating)
   -- of 6000h also T, to 1,000,000 with scaling (bit 2) and 1,048,576 without
@@ -45,7 +45,7 @@ pub record ProfileWritten (r k v : ℕ) (a b : Profile) : Type 0 where
   pub offset : (k ≡ 0x6003_00 → ⊥)
       → Becomes k ((0x6000_00, pos 0) ∷ (0x6002_00, pos 0) ∷ (0x6005_01, pos 0) ∷ []) (a .offset) (b .offset)
 
--- a device, from d to e
+-- a device: d before the write, e after it
 pub record Altered (k v : ℕ) (d e : Device) : Type 0 where
   pub communication : CommunicationWritten k v (d .settings .communication) (e .settings .communication)
   pub profile : ProfileWritten (d .reading .raw) k v (d .settings .profile) (e .settings .profile)

@@ -60,7 +60,7 @@ profileAfter p r k v =
       offset = cond (rescales k) (pos 0) (cond (eqb k presetKey) (presetTo p r v .offset) (p .offset));
     }
 
--- What the code needs of an accepted write: 6003h is below 6002h.
+-- What the code has to know of an accepted write: 6003h is below 6002h.
 abbrev pub Fits : Profile → ℕ → ℕ → Type 0
 Fits p k v = k ≡ presetKey → v < p .range
 

@@ -26,7 +26,7 @@ pub record Finds (i j : ℕ) : Type 0 where
   -- no such index: no entry has it
   pub no-index : (lookup i j ≡ NoIndex) ↔ ((p : ℕ) → HasIndex p i → ⊥)
 
--- each is above the one before it, the first above a
+-- increasing keys: each is above the one before it, the first above a
 abbrev pub risesFrom : ℕ → List ℕ → Bool
 risesFrom a [] = true
 risesFrom a (b ∷ l) = ltb a b && risesFrom b l
@@ -81,10 +81,10 @@ columns =
     []
 
 pub record Laws : Type 0 where
-  -- the entries, all of them, and none else
+  -- these are all the entries, and no others
   pub all-of-them : map (λ r. (index r, sub r, width r, isRw r)) table ≡ columns
   -- the number that names an entry elsewhere: 6003-0 is 0x6003_00
   pub keys : (p : ℕ) → key (rowAt p) ≡ index (rowAt p) * 256 + sub (rowAt p)
   pub finds : (i j : ℕ) → Finds i j
-  -- in index order, so that each entry stands once
+  -- in index order, so that each entry is there once
   pub rising : risesFrom 0 (map key table) ≡ true

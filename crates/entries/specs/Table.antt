@@ -36,7 +36,7 @@ ro = false
 abbrev rw : Bool
 rw = true
 
--- An entry: its row (index, sub-index, type, access, accepted values), when it is blank, and what it reads otherwise, of a device
+-- An entry: its row (index, sub-index, type, access, accepted values), when it is blank, and what it reads otherwise, in a device
 -- that is Operational or not.
 pub record Entry : Type 0 where
   pub row : Row
@@ -156,7 +156,7 @@ noSub (At p) = At p
 noSub NoSubIndex = NoSubIndex
 noSub NoIndex = NoSubIndex
 
--- the place of the entry i-j among rows of which the first stands at p; where there is none, whether the index is there at all
+-- the place of the entry i-j among rows that start at place p; if there is no such entry, whether any row has the index
 abbrev pub lookupFrom : ℕ → List Row → ℕ → ℕ → Found
 lookupFrom p [] i j = NoIndex
 lookupFrom p (r ∷ rs) i j =

@@ -42,10 +42,10 @@ pub record Positions (p : Profile) (r : ℕ) : Type 0 where
   pub unscaled : p .operating / 4 % 2 ≡ 0 → scaledCount p r ≡ r
   -- on: s is the greatest number of 6005h steps in r × 5,000
   pub scaled : p .operating / 4 % 2 ≡ 1 → (scaledCount p r * p .step ≤ r * 5000) × (r * 5000 < (scaledCount p r + 1) * p .step)
-  -- c is below T, and s less a multiple of it
+  -- c is below T, and is s minus a multiple of T
   pub count-below : count p r < p .range
   pub counted : (k : ℕ) × (scaledCount p r ≡ count p r + k * p .range)
-  -- Direction 0: d = c; 1: d and c are T − 1 together
+  -- Direction 0: d = c; 1: d and c add up to T − 1
   pub straight : p .operating / 8 % 2 ≡ 0 → directed p r ≡ count p r
   pub inverted : p .operating / 8 % 2 ≡ 1 → directed p r + count p r + 1 ≡ p .range
   pub directed-below : directed p r < p .range
@@ -55,10 +55,10 @@ pub record Positions (p : Profile) (r : ℕ) : Type 0 where
   pub only : (n : ℕ) → n < p .range → Agrees p r n → n ≡ position p r
   -- without an offset it is d
   pub plain : p .offset ≡ pos 0 → position p r ≡ directed p r
-  -- of the raw count only c counts
+  -- the position depends on the raw count only through c
   pub by-count : (q : ℕ) → count p q ≡ count p r → position p q ≡ position p r
 
--- 6000h with bit 3 turned over
+-- 6000h with bit 3 inverted
 abbrev pub turned : Profile → Profile
 turned p =
     record {
@@ -75,7 +75,7 @@ pub record Mirrors (p : Profile) (r : ℕ) : Type 0 where
   pub valid : ValidProfile (turned p)
   -- d becomes T − 1 − d
   pub directed-turned : directed (turned p) r ≡ p .range - 1 - directed p r
-  -- without scaling: the head reads from the other end, whatever the offset
+  -- without scaling: the head reads from the other end, for any offset
   pub other-end : p .operating / 4 % 2 ≡ 0 → r < p .range → position (turned p) r ≡ position p (p .range - 1 - r)
 
 -- Accepted 6003h = v: offset becomes v − d at the present sample, between −(T−1) and T−1, so the position reads v.

@@ -27,7 +27,7 @@ pub record Worked : Type 0 where
   -- r = 100, preset 40: 6509h is −60; then r = 50 reads 1,048,566
   pub p10 : (preset40 .offset ≡ negsuc 59) × (position preset40 50 ≡ 1048566)
   pub p10-reads : (position preset40 100 ≡ 40) × (position preset40 60 ≡ 0) × (position preset40 1048575 ≡ 1048515)
-  -- T less than the raw counts: the position runs over
+  -- T is less than the raw counts: the position wraps
   pub over : (position (profile 4 1000000 5000) 1000000 ≡ 0) × (position (profile 4 1000000 5000) 1048575 ≡ 48575)
   pub over-short : position (profile 4 1000 5000) 69637 ≡ 637
   -- scaling on and inverted
@@ -37,7 +37,7 @@ pub record Worked : Type 0 where
   -- the largest preset at the smallest d, and the smallest at the largest
   pub most : (presetTo (profile 4 1000 5000) 0 999 .offset ≡ pos 999) × (position (presetTo (profile 4 1000 5000) 0 999) 1 ≡ 0)
   pub least : (presetTo (profile 4 1000 5000) 999 0 .offset ≡ negsuc 998) × (position (presetTo (profile 4 1000 5000) 999 0) 0 ≡ 1)
-  -- measured from d, not from the position: a preset again takes the place of the first
+  -- measured from d, not from the position: a second preset replaces the first
   pub again : (presetTo preset40 100 140 .offset ≡ pos 40) × (position (presetTo preset40 100 140) 50 ≡ 90)
   pub factory-valid : ValidProfile factory
   pub scaled-valid : ValidProfile (profile 12 1000 1000000)

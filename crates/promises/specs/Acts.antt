@@ -45,7 +45,7 @@ pub data Act : Type 0 where
   -- a service request gets its reply, and has its effect
   serve : Served → Act
 
--- the core with these, and the reply last made; a reply's bytes stay behind when it has left, and no frame shows them
+-- the core with these, and the last reply made. The reply's bytes stay after it was sent, and no frame shows them.
 abbrev pub core : Core → Device → Nmt → Bool → Timers → Core
 core c d s a t = record { device = d; nmt = s; announced = a; timers = t; reply = c .reply }
 
@@ -129,7 +129,7 @@ acted c (serve s) = serving c s
 abbrev pub noMoment : Kind → Bool
 noMoment k = false
 
--- The emergency's is any call that does something, so that it waits exactly while its condition holds.
+-- For the emergency it is any call that has an effect, so that it waits exactly while its condition holds.
 abbrev pub emergencyOnly : Kind → Bool
 emergencyOnly emergency = true
 emergencyOnly sdoReply = false
@@ -167,7 +167,7 @@ requestMoments sdoReply = true
 requestMoments heartbeat = false
 requestMoments (tpdo w) = false
 
--- by the core before the act and the core after it
+-- from the core before the act and the core after it
 abbrev pub moments : Core → Core → Act → Kind → Bool
 moments before after nothing = noMoment
 moments before after (enter g) = entryMoments (communication before) (state g)
@@ -181,19 +181,19 @@ moments before after time = timeMoments (communication before) (before .timers)
 moments before after sync = syncMoments (communication before) (before .timers)
 moments before after (serve s) = requestMoments
 
--- A kind goes when its condition ends; it joins when it is its moment and it may. A due moment with a missing reading is passed over.
+-- A kind goes when its condition ends; it joins when it is due and may join. A due moment with a missing reading is passed over.
 abbrev pub goes : Core → Core → List ℕ
 goes before after = those (λ k. mayStay before k && not (mayStay after k))
 
 abbrev pub comes : (Kind → Bool) → Core → List ℕ
 comes due after = those (λ k. due k && mayJoin after k)
 
--- A head with another core, whose line has settled; `slot`: its first was sent. How kinds join and are withdrawn is `afterIn` of
--- crate waiting: a kind joins at the end, one that waits already keeps its place, several join in the order just given.
+-- A head with a new core, after its line has settled; `slot` says whether the first kind was sent. `afterIn` of crate waiting defines how
+-- kinds join and are withdrawn: a kind joins at the end, one that waits already keeps its place, several join in the order just given.
 unfoldable pub settledTo : Bool → Head → Core → (Kind → Bool) → Head
 settledTo slot h after due = record { core = after; line = afterIn slot (goes (h .core) after) (comes due after) (h .line) }
 
--- whose moment an act on a core is
+-- which kinds an act on a core makes due
 abbrev pub momentsOf : Core → Act → Kind → Bool
 momentsOf c a = moments c (acted c a) a
 

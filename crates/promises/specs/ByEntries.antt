@@ -55,7 +55,7 @@ pub record ByEntries : Type 0 where
   -- A read gets what the entry reads, in its bytes; 7. of a blank 0800 0024h.
   pub asked : (h : Head) (f : Received) (s : Shown) → let i = indexOf (f .bytes) in let j = subOf (f .bytes) in
       reading (f .bytes) ≡ true → readsIn h i j ≡ some s → (p : ℕ) × Stands p i j × (dueTo h f ≡ dueShown (width (rowAt p)) s)
-  -- 6004-0 is the position, by the other entries and the last sample
+  -- 6004-0 is the position, computed from the other entries and the last sample
   pub position : (p : PowerUp) (cs : List Call) → let h = after (powered p) cs in (x : Scale) → ReadsScale h x → (r : ℕ)
       → lastSample Missing cs ≡ Raw r → Reads h 0x6004 0 (positionBy x r)
   -- Accepted 6003h = p: offset becomes p − d at the present sample.

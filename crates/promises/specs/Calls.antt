@@ -93,7 +93,7 @@ abbrev pub sampledAs : Sensor → Act
 sampledAs Missing = lose
 sampledAs (Raw r) = cond (badSample (Raw r)) nothing (take r)
 
--- A slot sends the first. k is the first in the line: a kind's number, or none's.
+-- A slot sends the first. k is the first number in the line: a kind's, or 0 for none.
 abbrev pub sentAs : ℕ → Act
 sentAs k = firstOf (map (λ kind. (eqb k (number kind), send kind)) kinds) idle
 

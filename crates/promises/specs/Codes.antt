@@ -54,7 +54,7 @@ codeFrom n present (c ∷ cs) = codeFrom n (codeBy n present c) cs
 abbrev pub codeAfter : ℕ → List Call → ℕ
 codeAfter n cs = codeFrom n 0x00 cs
 
--- The state that a head is in, by this code and by nothing else: where 01 names a state, it is the one that the calls entered.
+-- The state that a head is in depends on this code and on nothing else: where 01 names a state, it is the one that the calls entered.
 pub record InState (c : Core) (code : ℕ) : Type 0 where
   pub is-initialising : isInitialising c ≡ eqb code 0x00
   pub is-stopped : isIn stopped c ≡ eqb code 0x04
@@ -69,18 +69,18 @@ commandBytes =
     (0x01, toEnter operational) ∷ (0x02, toEnter stopped) ∷ (0x80, toEnter preOperational) ∷ (0x81, toReset ofNode)
     ∷ (0x82, toReset ofCommunication) ∷ []
 
--- what holds of each of a list
+-- a property of each element of a list
 abbrev pub All : {A : Type 0} → (A → Type 0) → List A → Type 0
 All P [] = Unit {0}
 All P (x ∷ xs) = P x × All P xs
 
--- A command of this first byte to the node, once it has booted, is this command.
+-- A command with this first byte, to a node that has booted, is this command.
 abbrev pub IsSaid : ℕ × Command → Type 0
 IsSaid x =
     (p : PowerUp) (cs : List Call) (f : Received) → let h = after (powered p) cs in
     isInitialising (h .core) ≡ false → says (nodeOf p) (x .0) (receive f) ≡ true → Commands h f (x .1)
 
--- A service request to node n in the state of this code: identifier 600h+N, data, length 8, Pre-operational or Operational.
+-- A service request to node n in the state with this code: identifier 600h+N, data, length 8, Pre-operational or Operational.
 pub record Asks (n present : ℕ) (f : Received) : Type 0 where
   pub of-11-bits : f .extended ≡ false
   pub is-data : f .remote ≡ false
@@ -96,7 +96,7 @@ pub record Codes : Type 0 where
   pub codes : (p : PowerUp) (cs : List Call) → after (powered p) cs .core .nmt .code ≡ codeAfter (nodeOf p) cs
   pub in-state : (p : PowerUp) (cs : List Call) → InState (after (powered p) cs .core) (codeAfter (nodeOf p) cs)
   pub said : All IsSaid commandBytes
-  -- A service request is served exactly so, and while no reply waits.
+  -- Exactly such a service request is served, and only while no reply waits.
   pub requests : (p : PowerUp) (cs : List Call) (f : Received) → let h = after (powered p) cs in
       Requests h f ↔ (Asks (nodeOf p) (codeAfter (nodeOf p) cs) f × (waits h sdoReply ≡ false))
   -- Heartbeat: 700h+N, one byte, the state code.

@@ -36,7 +36,7 @@ WritesSub5 one h f = (v : ℕ) × (Writes h f 0x1800_05 v ⊎ Writes h f 0x6200_
 WritesSub5 two h f = (v : ℕ) × Writes h f 0x1801_05 v
 
 pub record Counting (p : PowerUp) (cs : List Call) : Type 0 where
-  -- every n ticks, at each n-th SYNC: n > 0, and with this one there are m times n
+  -- every n ticks, at each n-th SYNC: n > 0, and this one makes the count a multiple of n
   pub turns : (n count : ℕ) → EachOf n count ↔ ((0 < n) × (m : ℕ) × (suc count ≡ m * n))
   -- Types 254 and 255; types 1..240
   pub on-events : (p : Pdo) → OnEvents p ↔ ((253 < p .transmission) × (p .transmission < 256))
@@ -47,7 +47,7 @@ pub record Counting (p : PowerUp) (cs : List Call) : Type 0 where
   pub ticks : let n = countsAfter p cs in let m = countsAfter p (cs ++ tick ∷ []) in let code = codeAfter (nodeOf p) cs in
       (m .beats ≡ cond (eqb code 0x00) (n .beats) (suc (n .beats)))
       × ((w : PdoNumber) → (m .ticks w ≡ cond (eqb code 0x05) (suc (n .ticks w)) (n .ticks w)) × (m .syncs w ≡ n .syncs w))
-  -- The heartbeat is counted from .. entry to Pre-operational after boot-up; no other slot counts, nor a sample.
+  -- The heartbeat is counted from .. entry to Pre-operational after boot-up. No other slot changes a count, and no sample does.
   pub slots : let n = countsAfter p cs in let m = countsAfter p (cs ++ slot ∷ []) in
       (m .beats ≡ cond (eqb (codeAfter (nodeOf p) cs) 0x00) 0 (n .beats))
       × ((w : PdoNumber) → (m .ticks w ≡ n .ticks w) × (m .syncs w ≡ n .syncs w))

@@ -27,9 +27,9 @@ abbrev pub BadNode : ℕ → Type 0
 BadNode n = (n < 1) ⊎ (127 < n)
 
 pub record Demand1 : Type 0 where
-  -- Every head comes from power-up and is altered by calls only: so each is a valid one, which is all that a call requires.
+  -- Every head comes from power-up and is altered by calls only: so every head is valid, and a call requires no more.
   pub starts : (p : PowerUp) → Reachable (powered p)
-  -- Power-up takes a node number N and four identity numbers: each number, and any four of 32 bits
+  -- Power-up takes a node number N and four identity numbers: any node number, and any four numbers of 32 bits
   pub takes-any : (n : ℕ) (i : Identity) → i .vendor < 0x100000000 → i .product < 0x100000000 → i .revision < 0x100000000
       → i .serial < 0x100000000 → (p : PowerUp) × (p .number ≡ n) × (p .identity ≡ i)
   pub goes-on : (h : Head) (c : Call) → Reachable h → Reachable (step h c)

@@ -30,20 +30,20 @@ pub record Demand2 : Type 0 where
   pub starts : Starts
   pub states : NetworkStates
   pub codes : Codes
-  -- (by words that mean what 01 says)
+  -- (in terms that mean what 01 says)
   pub words : Words
   pub resets : Resets
   -- what entries read later;
   pub staying : Staying
   -- when each kind joins the waiting line;
   pub moments : (p : PowerUp) (cs : List Call) → Moments p cs
-  -- (ticks and SYNCs being counted so, call by call,)
+  -- (with ticks and SYNCs counted call by call,)
   pub counting : (p : PowerUp) (cs : List Call) → Counting p cs
-  -- (by 1014h, 1015h, 1017h, and each PDO's sub 1, sub 2 and sub 5, as they read)
+  -- (with 1014h, 1015h, 1017h, and each PDO's sub 1, sub 2 and sub 5, as they read)
   pub parameters : (h : Head) → Parameters h
   -- that a due moment with a missing reading is passed over;
   pub passed-over : (p : PowerUp) (cs : List Call) → PassedOver p cs
-  -- what the emergency says where it leaves, and what it then announces;
+  -- what the emergency says when it leaves, and what it then announces;
   pub emergency : (p : PowerUp) (cs : List Call) → Emergency p cs
   -- 1003h counts good-to-missing changes since the list was emptied, at most 4;
   -- 6004h is blank exactly while missing, 1001h and 6503h say so;

@@ -50,7 +50,7 @@ count t beats = t .heartbeat
 count t (events w) = clock t w .ticks
 count t (syncs w) = clock t w .syncs
 
--- Which counts a write begins anew.
+-- Which counts a write restarts.
 abbrev pub restarts : Core → ℕ → ℕ → Counted → Bool
 -- counted from its write
 restarts c k v beats = eqb k 0x1017_00
@@ -67,7 +67,7 @@ takes k v sdoReply = false
 takes k v heartbeat = eqb k 0x1017_00 && eqb v 0
 takes k v (tpdo w) = switchesOff k v w
 
--- What is due is the reply that joins; before it the emergency, where the write of 1014h begins its condition.
+-- What is due is the reply that joins; before it the emergency, if the write of 1014h starts its condition.
 abbrev pub brings : Head → ℕ → ℕ → Kind → Bool
 brings h k v emergency =
     let c = h .core in
@@ -76,7 +76,7 @@ brings h k v sdoReply = true
 brings h k v heartbeat = false
 brings h k v (tpdo w) = false
 
--- From h to a nothing is altered but the reply, and the line, which it joins at the end.
+-- From head h to head a only the reply changes, and the line: the reply joins at its end.
 pub record OnlyReplied (f : Received) (h a : Head) : Type 0 where
   pub entries : (i j : ℕ) → readsIn a i j ≡ readsIn h i j
   -- settings, saved set, reading and error list
@@ -87,9 +87,9 @@ pub record OnlyReplied (f : Received) (h a : Head) : Type 0 where
   pub reply : a .core .reply ≡ answer (f .bytes) (dueTo h f) .bytes
   pub line : waiting (a .line) ≡ waiting (h .line) ++ line.sdoReply ∷ []
 
--- From h to a all that a write of v to the entry of key k alters.
+-- All that a write of v to the entry of key k changes, from head h to head a.
 pub record Effects (f : Received) (k v : ℕ) (h a : Head) : Type 0 where
-  -- the entries named read anew, every other one as before, and no entry comes or goes
+  -- the named entries read their new values, every other entry reads as before, and no entry appears or disappears
   pub entries : (i j : ℕ) → readsIn a i j ≡ anew (effects (h .core .device) (isIn operational (h .core)) k v) (keyOf i j) (readsIn h i j)
   pub others : (i j : ℕ) → has (keyOf i j) (map (λ e. e .0) (effects (h .core .device) (isIn operational (h .core)) k v)) ≡ false
       → readsIn a i j ≡ readsIn h i j
@@ -105,11 +105,11 @@ pub record Effects (f : Received) (k v : ℕ) (h a : Head) : Type 0 where
   pub inhibit : a .core .timers .inhibit ≡ h .core .timers .inhibit
   pub counts : (c : Counted) → count (a .core .timers) c ≡ cond (restarts (h .core) k v c) 0 (count (h .core .timers) c)
   pub reply : a .core .reply ≡ answer (f .bytes) (confirmation k v) .bytes
-  -- those taken are gone, the others keep their order, and those brought stand at the end
+  -- the kinds that were taken are gone, the others keep their order, and those that joined stand at the end
   pub line : waiting (a .line) ≡ withdraws (waiting (h .line)) (those (takes k v)) ++ those (brings h k v)
   pub who-waits : (x : Kind) → waits a x ≡ ((not (takes k v x) && waits h x) || brings h k v x)
 
--- What a service request that is served does, by what is due to it.
+-- What a service request that is served does, for each kind of reply due to it.
 pub record Served (h : Head) (f : Received) : Type 0 where
   -- an aborted write alters no entry,
   pub aborted : (code : ℕ) → dueTo h f ≡ abort code → OnlyReplied f h (step h (receive f))

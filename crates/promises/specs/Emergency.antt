@@ -32,12 +32,12 @@ pub record Alerts (n : ℕ) (h : Head) : Type 0 where
   pub waited : isFrame (slotAnswer h) ≡ true
   pub identifier : frameIn (slotAnswer h) .identifier ≡ 0x80 + n
 
--- for 1015h = v .. none if v = 0, else v/10 rounded up, plus 1, ticks: t − 1 is the least that ten times is v or more
+-- for 1015h = v .. none if v = 0, else v/10 rounded up, plus 1, ticks: t − 1 is the least number whose tenfold is v or more
 pub record Inhibits (v t : ℕ) : Type 0 where
   pub none : v ≡ 0 → t ≡ 0
   pub some : 0 < v → (tenths : ℕ) × (t ≡ tenths + 1) × (v ≤ tenths * 10) × (tenths * 10 < v + 10)
 
--- What counts as announced after a call, a before it, true for good; s is the last sample.
+-- What counts as announced after a call, true for good; a is what counted before it, s the last sample.
 abbrev pub announcedBy : ℕ → Head → Sensor → Call → Bool → Bool
 -- Both [resets] .. forget what was announced ("good" counts as announced).
 announcedBy n h s (receive f) a = cond (isCommand n resets (receive f)) true a
@@ -47,7 +47,7 @@ announcedBy n h s (sample t) a = a
 announcedBy n h s slot a = cond (among (isEmergency n) (frames h slot)) (isGood s) a
 
 pub record Emergency (p : PowerUp) (cs : List Call) : Type 0 where
-  -- A slot sends the first: a frame 80h+N leaves exactly where the emergency is first.
+  -- A slot sends the first: a frame 80h+N leaves exactly when the emergency is first.
   pub leaves : let h = after (powered p) cs in IsFirst emergency h ↔ Alerts (nodeOf p) h
   -- Its bytes say the present reading,
   pub says : let h = after (powered p) cs in Alerts (nodeOf p) h
@@ -57,7 +57,7 @@ pub record Emergency (p : PowerUp) (cs : List Call) : Type 0 where
   -- Sending starts the inhibit time: for 1015h = v ..
   pub inhibits : let h = after (powered p) cs in Alerts (nodeOf p) h
       → (v : ℕ) × Reads h 0x1015 0 v × Inhibits v (step h slot .core .timers .inhibit)
-  -- Power-up: "good" counted as announced; and no other call alters it but a reset.
+  -- Power-up: "good" counted as announced. Apart from that only a reset changes it.
   pub good-at-first : powered p .core .announced ≡ true
   pub announced : let h = after (powered p) cs in (c : Call)
       → step h c .core .announced ≡ announcedBy (nodeOf p) h (lastSample Missing cs) c (h .core .announced)

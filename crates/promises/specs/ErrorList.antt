@@ -26,7 +26,7 @@ isCount k v = eqb k 0x1003_00
 abbrev pub empties : Head → Received → Bool
 empties h f = isRequest h f && confirms isCount (dueTo h f)
 
--- The good-to-missing changes since the list was last emptied: s the last sample and n their number before the call.
+-- The number of good-to-missing changes since the list was last emptied: before the call it is n, and s is the last sample.
 -- In every state, also Initialising; only a good sample followed by a missing one is such a change.
 abbrev pub lossesBy : Head → Sensor → ℕ → Call → ℕ
 lossesBy h s n (receive f) = cond (empties h f) 0 n
@@ -44,7 +44,7 @@ losses h s n (c ∷ cs) = losses (step h c) (sampleBy s c) (lossesBy h s n c) cs
 abbrev pub shownError : ℕ → ℕ → Shown
 shownError count j = cond (ltb count j) Blank (Number 0x5000)
 
--- The count being n.
+-- What the entries read when the count is n.
 pub record Lists (h : Head) (n : ℕ) : Type 0 where
   pub count : readsIn h 0x1003 0 ≡ some (Number n)
   pub error : (j : ℕ) → 1 ≤ j → j ≤ 4 → readsIn h 0x1003 j ≡ some (shownError n j)

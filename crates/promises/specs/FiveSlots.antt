@@ -30,8 +30,8 @@ abbrev pub WaitsThrough : Head → List Call → Kind → Type 0
 WaitsThrough h [] k = waits h k ≡ true
 WaitsThrough h (c ∷ cs) k = (waits h k ≡ true) × WaitsThrough (step h c) cs k
 
--- One of the calls cs, with fewer than b slots before it, sends k or is a withdrawal of k; k
--- waits until then, so that it is the same frame that leaves, and no more after it.
+-- One of the calls cs, with fewer than b slots before it, sends k or withdraws k. Until then k waits, so that the same frame leaves;
+-- after it k no longer waits.
 pub record LeavesBy (b : ℕ) (h : Head) (cs : List Call) (k : Kind) : Type 0 where
   pub before : List Call
   pub call : Call
@@ -68,7 +68,7 @@ pub record BootUpWaits (n : ℕ) (h : Head) : Type 0 where
   pub waited : isFrame (slotAnswer h) ≡ true
   pub answer : frameIn (slotAnswer h) ≡ oneByte (0x700 + n) 0x00
 
--- 01's condition for a kind, under which alone it waits.
+-- 01's condition for a kind: it waits only while this holds.
 abbrev pub May : Head → Kind → Type 0
 -- Emergency: .. (and it waits exactly then: `waits-exactly` of specs/Gap.antt)
 May h emergency =
@@ -86,18 +86,18 @@ pub record FiveSlots : Type 0 where
   -- A kind waits exactly if it stands in the line.
   pub stands : (h : Head) (k : Kind) → (waits h k ≡ true) ↔ ((a : List ℕ) × (b : List ℕ) × (waiting (h .line) ≡ a ++ number k ∷ b))
   -- A frame that begins to wait leaves by the fifth slot after that, no matter what is called between, unless a withdrawal takes it first.
-  -- (Of every head in which k waits, whenever it began: so of the head after the call by which it begins to wait.)
+  -- (For every head in which k waits, whenever it began: so also for the head after the call that makes it wait.)
   pub by-the-fifth : (h : Head) → Reachable h → (cs : List Call) (k : Kind) → waits h k ≡ true → 5 ≤ slots cs → LeavesBy 5 h cs k
   -- Withdrawals, and no others: what waited and no longer waits was sent, or one of the list took it.
   pub only-so : (h : Head) → Reachable h → (c : Call) (k : Kind) → waits h k ≡ true → waits (step h c) k ≡ false
       → Sends h c k ⊎ Withdrawal h c k
-  -- What one of the list takes no longer waits, nor does it join again in the same call; and so what is sent.
+  -- What a withdrawal takes no longer waits and does not join again in the same call. The same holds for what is sent.
   pub withdrawn : (h : Head) → Reachable h → (c : Call) (k : Kind) → Withdrawal h c k → waits (step h c) k ≡ false
   pub sent : (h : Head) → Reachable h → (c : Call) (k : Kind) → Sends h c k → waits (step h c) k ≡ false
   -- Five kinds can wait: ..; each at most once; and each only under 01's condition for it.
   pub once : (h : Head) → Reachable h → Kinds places (waiting (h .line))
   pub only-while : (h : Head) → Reachable h → (k : Kind) → waits h k ≡ true → May h k
-  -- (Each stands in the line by a number of its own; 0 is none's.)
+  -- (Each kind has its own number in the line; 0 is no kind's.)
   pub numbered : (j k : Kind) → number j ≡ number k → j ≡ k
   pub not-0 : (k : Kind) → 0 < number k
   pub lines-up : (h : Head) → Reachable h → (c : Call) → Lined h c

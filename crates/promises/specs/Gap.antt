@@ -37,7 +37,7 @@ isBootUp n f = eqb (f .identifier) (0x700 + n) && eqb (f .length) 1 && eqb (getD
 abbrev pub isEmergency : ℕ → Frame → Bool
 isEmergency n f = eqb (f .identifier) (0x80 + n)
 
--- "the last emergency frame sent since boot-up": `last` before the frames, and each boot-up begins anew
+-- "the last emergency frame sent since boot-up": `last` before the frames, and each boot-up starts again
 abbrev pub lastAfter : ℕ → Option Frame → List Frame → Option Frame
 lastAfter n last [] = last
 lastAfter n last (f ∷ fs) = lastAfter n (cond (isBootUp n f) none (cond (isEmergency n f) (some f) last)) fs
@@ -75,7 +75,7 @@ showsPosition (tpdo w) = true
 abbrev pub isPosition : Frame → Bool
 isPosition f = within 0x181 0x57F (f .identifier)
 
--- what the tests say of a frame
+-- what the tests say about a frame
 pub record Known (n : ℕ) (f : Frame) (boots alerts shows : Bool) : Type 0 where
   pub boot-up : isBootUp n f ≡ boots
   pub emergency : isEmergency n f ≡ alerts
@@ -109,8 +109,8 @@ resets b = eqb b 0x81 || eqb b 0x82
 abbrev pub stopsOrResets : ℕ → Bool
 stopsOrResets b = eqb b 0x02 || resets b
 
--- The ticks that an inhibit time has to run after a call; t before it. Sending the emergency starts it, from 1015h; each tick
--- it has one less to run; a reset ends it; writing 1015h doesn't alter a running one, nor does any other call.
+-- The ticks that an inhibit time still runs after a call; t before it. Sending the emergency starts it, from 1015h; each tick
+-- takes one off; a reset ends it; writing 1015h doesn't alter a running one, nor does any other call.
 abbrev pub leftBy : ℕ → Head → Call → ℕ → ℕ
 leftBy n h (receive f) t = cond (isCommand n resets (receive f)) 0 t
 leftBy n h tick t = t - 1
@@ -155,8 +155,8 @@ pub record Gap : Type 0 where
   -- Both [resets] enter Initialising, .. end any inhibit time and forget what was announced ("good" counts as announced).
   pub forgotten : (p : PowerUp) (cs : List Call) → let h = after (powered p) cs in
       isInitialising (h .core) ≡ true → (h .core .announced ≡ true) × (h .core .timers .inhibit ≡ 0)
-  -- Of the frames that can be sent each test finds its own, and no other: the heartbeat has the boot-up
-  -- frame's identifier, but not its byte, and while a PDO is on its identifier is in 181h..57Fh.
+  -- Among the frames that can be sent, each test finds its own and no other: the heartbeat has the boot-up
+  -- frame's identifier but not its byte, and while a PDO is on its identifier is in 181h..57Fh.
   pub known : (p : PowerUp) (cs : List Call) (k : Kind) → let h = after (powered p) cs in waits h k ≡ true
       → Known (nodeOf p) (frameOf (h .core) k) false (alerts k) (showsPosition k)
   pub known-boot-up : (p : PowerUp) (cs : List Call) → Known (nodeOf p) (bootUpFrame (after (powered p) cs .core)) true false false
@@ -175,8 +175,8 @@ pub record Gap : Type 0 where
       → Unrelieved (nodeOf p) (step h (sample Missing)) cs
       → 5 ≤ slots cs
       → lastEmergency (nodeOf p) (sent (powered p) (before ++ sample Missing ∷ cs)) ≡ some (saysMissing (nodeOf p))
-  -- So from each moment of a gap at which no inhibit time runs, not only from its sample: from
-  -- the boot-up of a head without a reading, from the end of an inhibit time.
+  -- The same from each moment of a gap at which no inhibit time runs, not only from its sample: for example
+  -- from the boot-up of a head without a reading, or from the end of an inhibit time.
   pub gap-is-told : (p : PowerUp) (before cs : List Call) → let h = after (powered p) before in
       isLive (h .core) ≡ true
       → good (h .core) ≡ false

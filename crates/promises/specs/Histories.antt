@@ -10,7 +10,7 @@ use Rattle.dictionary.specs.Valid.{ValidIdentity}
 use Rattle.parts.specs.declared.Head.{Head}
 use Rattle.promises.specs.Calls.{Call, receive, tick, sample, slot, isSlot, step, poweredUp, slotAnswer, isFrame, frameIn}
 
--- the head after the calls, the first of them first
+-- the head after the calls, taken in their order
 abbrev pub after : Head → List Call → Head
 after h [] = h
 after h (c ∷ cs) = after (step h c) cs

@@ -12,7 +12,7 @@ use Rattle.promises.specs.States.{Command, noCommand, toEnter, toReset, 
 use Rattle.promises.specs.WaitingLine.{sdoReply}
 use Rattle.promises.specs.Valid.{waits}
 
--- A frame that is not refused, a data frame of an 11-bit identifier, to a head that is not Initialising.
+-- A frame that is not refused: a data frame with an 11-bit identifier, to a head that is not Initialising.
 pub record Heard (h : Head) (f : Received) : Type 0 where
   pub unrefused : refusalOf f ≡ 0
   pub heard : (f .extended || f .remote || isInitialising (h .core)) ≡ false

@@ -57,7 +57,7 @@ isTick tick = true
 isTick (sample s) = false
 isTick slot = false
 
--- How many of the calls count, since the last of them that begins anew; n before them.
+-- How many of the calls count, since the last one that restarts the count; n before these calls.
 abbrev pub countBy : (anew counts : Head → Call → Bool) → Head → Call → ℕ → ℕ
 countBy anew counts h c n = cond (anew h c) 0 (cond (counts h c) (suc n) n)
 
@@ -144,7 +144,7 @@ OnEvents p = (p .transmission ≡ 254) ⊎ (p .transmission ≡ 255)
 abbrev pub OnSyncs : Pdo → Type 0
 OnSyncs p = (1 ≤ p .transmission) × (p .transmission ≤ 240)
 
--- The calls at which a kind joins, n having been counted before.
+-- The calls at which a kind joins; n are the counts before the call.
 pub data Begins (h : Head) (n : Counts) : Call → Kind → Type 0 where
   -- (No inhibit time runs: what is left of it is `inhibit-left` of specs/Gap.antt, and what was announced is `announced` there.)
   alerting : {c : Call} → Alerting (step h c) → Begins h n c emergency

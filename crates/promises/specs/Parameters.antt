@@ -12,7 +12,7 @@ use Rattle.parts.specs.declared.Head.{Head}
 use Rattle.promises.specs.States.{communication, PdoNumber, one, two, pdo}
 use Rattle.promises.specs.Readings.{readsIn, profileOf}
 
--- whose parameters, 1800h or 1801h
+-- the index of a PDO's parameters, 1800h or 1801h
 abbrev pub parameters : PdoNumber → ℕ
 parameters one = 0x1800
 parameters two = 0x1801
@@ -26,7 +26,7 @@ pub record Parameters (h : Head) : Type 0 where
   pub emergency : Reads h 0x1014 0 (communication (h .core) .emergency)
   pub inhibit : Reads h 0x1015 0 (communication (h .core) .inhibit)
   pub heartbeat : Reads h 0x1017 0 (communication (h .core) .heartbeat)
-  -- of each PDO bit 31 of sub 1, its type, and sub 5 = E; 1800-5 under a second index
+  -- for each PDO: bit 31 of sub 1, its type, and sub 5 = E; 1800-5 under a second index
   pub identifier : (w : PdoNumber) → Reads h (parameters w) 1 (pdo (communication (h .core)) w .identifier)
   pub transmission : (w : PdoNumber) → Reads h (parameters w) 2 (pdo (communication (h .core)) w .transmission)
   pub event : (w : PdoNumber) → Reads h (parameters w) 5 (pdo (communication (h .core)) w .event)
@@ -37,5 +37,5 @@ pub record Parameters (h : Head) : Type 0 where
   pub step : Reads h 0x6005 1 (profileOf h .step)
   -- S32
   pub offset : Reads h 0x6509 0 (twos (profileOf h .offset))
-  -- switched on (bit 31 .. is 0), of 32 bits
+  -- switched on (bit 31 .. is 0), for numbers of 32 bits
   pub switched-on : (v : ℕ) → v ≤ 0xFFFFFFFF → (on v ≡ true) ↔ (v < 0x80000000)

@@ -19,7 +19,7 @@ use Rattle.promises.specs.Readings.{lastSample}
 use Rattle.promises.specs.Moments.{since, pdoOf, OnEvents, OnSyncs, EachOf, Counts, countsAfter}
 use Rattle.promises.specs.Moments.{ticksAnew, tickCounts, syncsAnew, synchronises}
 
--- A PDO's due moments, whatever the reading; n was counted before the call.
+-- A PDO's due moments, for any reading; n was counted before the call.
 pub data Due (h : Head) (n : Counts) : Call → PdoNumber → Type 0 where
   -- Types 254 and 255: on entering Operational,
   enters : {f : Received} {w : PdoNumber} → Commands h f (toEnter operational) → isIn operational (h .core) ≡ false → OnEvents (pdoOf h w)
@@ -38,11 +38,11 @@ pub record PassedOver (p : PowerUp) (cs : List Call) : Type 0 where
   -- With a good one, and switched on, the PDO joins.
   pub joins : let h = after (powered p) cs in (c : Call) (w : PdoNumber) (r : ℕ) → Due h (countsAfter p cs) c w
       → lastSample Missing cs ≡ Raw r → on (pdoOf h w .identifier) ≡ true → waits (step h c) (tpdo w) ≡ true
-  -- No frame joins later for a moment passed over: a PDO begins to wait at a due moment, with a good reading.
+  -- No frame joins later for a moment that was passed over: a PDO starts to wait only at a due moment with a good reading.
   pub not-later : let h = after (powered p) cs in (c : Call) (w : PdoNumber) → waits h (tpdo w) ≡ false → waits (step h c) (tpdo w) ≡ true
       → Due h (countsAfter p cs) c w × ((r : ℕ) × (lastSample Missing cs ≡ Raw r))
-  -- The next is E ticks later, at the n-th SYNC after it, whether a frame joined or not: whatever calls ds
-  -- follow, ticks and SYNCs fall due exactly where they do if they are counted from the due moment.
+  -- The next moment is E ticks later, or at the n-th SYNC after it, whether a frame joined or not: for all calls ds
+  -- that follow, a tick or a SYNC is due exactly when it is due if counted from the due moment.
   pub ticks-on : let h = after (powered p) cs in (c : Call) (w : PdoNumber) → Due h (countsAfter p cs) c w → OnEvents (pdoOf h w)
       → (ds : List Call) → let period = pdoOf h w .event in
       EachOf period (countsAfter p (cs ++ c ∷ ds) .ticks w) ↔ EachOf period (since (ticksAnew w) tickCounts (step h c) ds 0)

@@ -31,14 +31,14 @@ use Rattle.promises.specs.Calls.{Call, receive, tick, sample, slot, badS
 use Rattle.promises.specs.Meant.{Commands, dueTo, Writes}
 use Rattle.promises.specs.Histories.{after}
 
--- What the entry i-j of a head reads; none where there is no entry.
+-- What the entry i-j of a head reads; none if there is no such entry.
 abbrev pub readsIn : Head → ℕ → ℕ → Option Shown
 readsIn h i j = reads (h .core .device) (isIn operational (h .core)) i j
 
 abbrev pub profileOf : Head → Profile
 profileOf h = h .core .device .settings .profile
 
--- The last sample that was taken, s before the calls. 3: a raw sample above 1,048,575 is refused, and leaves the head unchanged.
+-- The last sample that was taken; s before the calls. 3: a raw sample above 1,048,575 is refused, and leaves the head unchanged.
 abbrev pub sampleBy : Sensor → Call → Sensor
 sampleBy s (receive f) = s
 sampleBy s tick = s
@@ -64,12 +64,12 @@ abbrev pub shownRegister : Sensor → Shown
 shownRegister Missing = Number 1
 shownRegister (Raw r) = Number 0
 
--- what is due to a read of an entry of so many bytes. 7. read of a blank: 0800 0024h
+-- what is due to a read of an entry with this number of bytes. 7. read of a blank: 0800 0024h
 abbrev pub dueShown : ℕ → Shown → Due
 dueShown width Blank = abort 0x08000024
 dueShown width (Number n) = value width n
 
--- Of every sequence of calls from power-up, s being its last sample. Before the first it is missing, and 6004h is blank, not 0.
+-- For every sequence of calls from power-up; s is its last sample. Before the first it is missing, and 6004h is blank, not 0.
 pub record Tells (h : Head) (s : Sensor) : Type 0 where
   pub reading-is : h .core .device .reading ≡ readingOf s
   -- the present reading (good or missing)
@@ -91,12 +91,12 @@ pub data Moves (h : Head) : Call → Type 0 where
   writes : (f : Received) (k v : ℕ) → Writes h f k v → repositions k ≡ true → Moves h (receive f)
   resets : (f : Received) → Commands h f (toReset ofNode) → Moves h (receive f)
 
--- none of the calls does
+-- none of the calls can
 abbrev pub Unmoved : Head → List Call → Type 0
 Unmoved h [] = Unit {0}
 Unmoved h (c ∷ cs) = (Moves h c → ⊥) × Unmoved (step h c) cs
 
--- TPDO: 4 bytes, the position, low byte first: the one that 6004h reads, and nothing of it is lost.
+-- TPDO: 4 bytes, the position, low byte first: exactly the one that 6004h reads.
 pub record Carries (h : Head) (f : Frame) : Type 0 where
   pub which : PdoNumber
   pub identifier : f .identifier ≡ pdo (communication (h .core)) which .identifier
@@ -106,7 +106,7 @@ pub record Carries (h : Head) (f : Frame) : Type 0 where
   pub its-bytes : f .bytes ≡ pad 8 (lowFirst 4 position)
   pub whole : bytes.number (lowFirst 4 position) ≡ position
 
--- Of every reachable head.
+-- For every reachable head.
 pub record Positioned (h : Head) : Type 0 where
   -- Position = (d + offset) mod T, never negative: the one number below T that differs from d + offset by a multiple of T
   pub formula : (r : ℕ) → Positions (profileOf h) r

@@ -32,7 +32,7 @@ use Rattle.promises.specs.Readings.{readsIn}
 abbrev pub restoredBy82 : ℕ → Bool
 restoredBy82 i = ltb i 0x2000 || eqb i 0x6200
 
--- The settings of which an entry of index i reads after a reset.
+-- The settings from which an entry of index i reads after a reset.
 abbrev pub settingsFor : Reset → Device → ℕ → Settings
 -- 81h sets all settings to the saved set;
 settingsFor ofNode d i = d .saved
@@ -66,7 +66,7 @@ pub record HasBooted (h a : Head) : Type 0 where
   pub device : a .core .device ≡ h .core .device
   pub announced : a .core .announced ≡ true
   pub timers : a .core .timers ≡ atRest
-  -- Nothing waits; but the emergency does, where bit 31 of 1014h is 0 and the
+  -- Nothing waits, except the emergency if bit 31 of 1014h is 0 and the
   -- reading is missing: it differs from "good", which counts as announced.
   pub line : waiting (a .line) ≡ cond (on (communication (h .core) .emergency) && not (good (h .core))) (line.emergency ∷ []) []
 
@@ -84,12 +84,12 @@ Alters h tick = ⊥
 Alters h (sample s) = ⊥
 Alters h slot = ⊥
 
--- None of the calls is such a one.
+-- None of the calls is such a call.
 abbrev pub None : (Head → Call → Type 0) → Head → List Call → Type 0
 None Such h [] = Unit {0}
 None Such h (c ∷ cs) = (Such h c → ⊥) × None Such (step h c) cs
 
--- After an accepted write to the entry of key k, whatever comes then but a save or a load, a reset restores the settings s.
+-- After an accepted write to the entry of key k, and then any calls but a save or a load, a reset restores the settings s.
 abbrev pub Restores : ℕ → (Head → Settings) → Type 0
 Restores k s =
     (h : Head) → Reachable h → (f : Received) (v : ℕ) → Writes h f k v → (cs : List Call) → None Saves (step h (receive f)) cs
@@ -99,14 +99,14 @@ Restores k s =
 pub record Resets : Type 0 where
   pub resets : (h : Head) → Reachable h → (f : Received) (r : Reset) → Commands h f (toReset r) → HasReset r h (step h (receive f))
   pub boots : (h : Head) → Reachable h → isInitialising (h .core) ≡ true → HasBooted h (step h slot)
-  -- no call but an accepted write or a reset alters the settings,
+  -- no call but an accepted write or a reset changes the settings,
   pub settings-stay : (h : Head) → Reachable h → (cs : List Call) → None Alters h cs
       → after h cs .core .device .settings ≡ h .core .device .settings
-  -- so that what was written is read, whatever comes then but these; 1003-0 counts on
+  -- so that what was written is read after any other calls; only 1003-0 goes on counting;
   pub reads-on : (h : Head) → Reachable h → (f : Received) (k v : ℕ) → Writes h f k v → (k ≡ 0x1003_00 → ⊥) → (cs : List Call)
       → None Alters (step h (receive f)) cs
       → readsIn (after (step h (receive f)) cs) (indexOf (f .bytes)) (subOf (f .bytes)) ≡ some (Number (readBack k v))
-  -- and no call but an accepted write of 1010-1 or 1011-1 the saved set
+  -- and no call but an accepted write of 1010-1 or 1011-1 changes the saved set
   pub saved-stays : (h : Head) → Reachable h → (cs : List Call) → None Saves h cs → after h cs .core .device .saved ≡ h .core .device .saved
   -- "save" copies the settings (.. plus the offset) to the saved set.
   pub saves : Restores 0x1010_01 (λ h. h .core .device .settings)

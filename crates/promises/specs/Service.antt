@@ -30,7 +30,7 @@ abbrev pub replyDue : Head → Received → Served
 replyDue h f = answer (f .bytes) (dueTo h f)
 
 -- What is due is the reply that joins: it waits, behind all others. Its bytes
--- are the ones due, and so is what the request did to the device.
+-- are the ones due, and the request did to the device what was due.
 pub record Replied (h : Head) (f : Received) (then : Head) : Type 0 where
   pub ahead : List ℕ
   pub joins : waiting (then .line) ≡ ahead ++ number sdoReply ∷ []
@@ -109,7 +109,7 @@ abbrev pub repliesIn : ℕ → List Frame → ℕ
 repliesIn n [] = 0
 repliesIn n (f ∷ fs) = cond (eqb (f .identifier) (0x580 + n)) 1 0 + repliesIn n fs
 
--- Of every reachable head.
+-- For every reachable head.
 pub record Serves (h : Head) : Type 0 where
   pub is-request : (f : Received) → (isRequest h f ≡ true) ↔ Requests h f
   -- First that applies
@@ -117,11 +117,11 @@ pub record Serves (h : Head) : Type 0 where
   -- While a reply waits, a further request has no effect.
   pub busy : (f : Received) → f .identifier ≡ 0x600 + node (h .core) → waits h sdoReply ≡ true → step h (receive f) ≡ h
 
--- Of every sequence of calls from power-up.
+-- For every sequence of calls from power-up.
 pub record Answers (p : PowerUp) (cs : List Call) : Type 0 where
   -- a reply waits exactly while it is owed, and with these bytes
   pub exactly : pending (after (powered p) cs) ≡ owed (powered p) none cs
-  -- no other request is answered before it has gone
+  -- no other request is answered before the reply has gone
   pub alone : (b : List ℕ) → owed (powered p) none cs ≡ some b → (f : Received) → isAnswered (after (powered p) cs) f ≡ false
   -- and what a slot sends as a reply is what is owed
   pub sends : let h = after (powered p) cs in sendsReply h ≡ true

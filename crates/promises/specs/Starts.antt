@@ -31,7 +31,7 @@ identityOf p = cond (within 1 127 (p .number)) (p .identity) (record { vendor = 
 abbrev pub Line : Type 0
 Line = ℕ × ℕ × ℕ × Shown
 
--- 01's table "Entries", its column "Factory" at node n, of identity i: before the first sample, and before the first call.
+-- 01's table "Entries", its column "Factory", for node n and identity i: before the first sample, and before the first call.
 abbrev pub firstReads : ℕ → Identity → List Line
 firstReads n i =
     (0x1000, 0, 4, Number 0x00080196) ∷
@@ -90,7 +90,7 @@ firstLines p = firstReads (nodeOf p) (identityOf p)
 abbrev pub reading : ℕ → ℕ → ℕ → Received
 reading n i j = dataFrame (0x600 + n) 8 (0x40 ∷ lowFirst 2 i ++ j ∷ 0 ∷ 0 ∷ 0 ∷ 0 ∷ [])
 
--- A line of the list holds: of the entry, and once the boot-up frame is sent of what is due to a request for it.
+-- A line of the list is right: for the entry, and once the boot-up frame is sent for the reply due to a request for it.
 pub record Reads (p : PowerUp) (l : Line) : Type 0 where
   pub entry : readsIn (powered p) (l .0) (l .1) ≡ some (l .3)
   pub due : dueTo (step (powered p) slot) (reading (nodeOf p) (l .0) (l .1)) ≡ dueShown (l .2) (l .3)
@@ -105,7 +105,7 @@ pub record Starts : Type 0 where
   pub asked : (p : PowerUp) (i j : ℕ) → Requests (step (powered p) slot) (reading (nodeOf p) i j)
   -- the saved set equal to them
   pub saved : (p : PowerUp) → powered p .core .device .saved ≡ powered p .core .device .settings
-  -- so that a reset restores these until 1010-1 or 1011-1 was written: 81h all of them, 82h those below 2000h
+  -- so that a reset restores these until 1010-1 or 1011-1 is written: 81h all of them, 82h those below 2000h
   pub restores : (p : PowerUp) (cs : List Call) → None Saves (powered p) cs → let h = after (powered p) cs in (f : Received) (r : Reset)
       → Commands h f (toReset r)
       → step h (receive f) .core .device .settings ≡ restored r (h .core .device .settings) (powered p .core .device .settings)

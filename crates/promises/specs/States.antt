@@ -107,7 +107,7 @@ startedCore n i =
       reply = pad 8 [];
     }
 
--- Only the boot-up frame waits: Initialising is that it does, and no kind stands in the line.
+-- Only the boot-up frame waits: the state Initialising means that it does, and no kind stands in the line.
 abbrev pub started : ℕ → Identity → Head
 started n i = record { core = startedCore n i; line = pad places [] }
 

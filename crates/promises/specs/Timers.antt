@@ -14,7 +14,7 @@ use Rattle.parts.specs.declared.Timers.{Timers}
 abbrev pub inhibitTicks : ℕ → ℕ
 inhibitTicks v = cond (eqb v 0) 0 ((v + 9) / 10 + 1)
 
--- every n ticks, at each n-th SYNC: one more is counted, and at n it begins again; with n = 0 nothing is
+-- every n ticks, at each n-th SYNC: one more is counted, and at n the count starts again; with n = 0 nothing is counted
 abbrev pub counted : ℕ → ℕ → ℕ
 counted n count = cond (ltb (suc count) n) (suc count) 0
 
@@ -34,7 +34,7 @@ eventDue p k = not (synchronous p) && completes (p .event) (k .ticks)
 abbrev pub syncDue : Pdo → Clock → Bool
 syncDue p k = synchronous p && completes (p .transmission) (k .syncs)
 
--- (counted for every PDO; only of types 254 and 255 is it a moment, and switching on begins anew)
+-- (Ticks are counted for every PDO, but only types 254 and 255 are due by them; switching on restarts the count.)
 abbrev pub clockTicked : Pdo → Clock → Clock
 clockTicked p k = record { ticks = counted (p .event) (k .ticks); syncs = k .syncs }
 
@@ -45,7 +45,7 @@ clockSynced p k =
 abbrev pub ifRunning : Bool → Pdo → Clock → Clock
 ifRunning runs p k = cond runs (clockTicked p k) k
 
--- A tick: the inhibit time has one less to run, the heartbeat's count goes on, and in Operational the PDOs'.
+-- A tick: the inhibit time runs one tick less, the heartbeat's count goes on, and in Operational those of the PDOs.
 abbrev pub timersTicked : Bool → Communication → Timers → Timers
 timersTicked operational s t =
     record {

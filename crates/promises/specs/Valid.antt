@@ -27,7 +27,7 @@ waits h k = has (number k) (waiting (h .line))
 abbrev pub isNamed : Core → Bool
 isNamed c = isInitialising c || isIn stopped c || isIn operational c || isIn preOperational c
 
--- a count of n stands below n, or at 0
+-- a count of a period n is below n, or 0
 abbrev pub Below : ℕ → ℕ → Type 0
 Below n count = (count ≡ 0) ⊎ (count < n)
 
@@ -37,7 +37,7 @@ pub record ValidClock (p : Pdo) (k : Clock) : Type 0 where
   pub syncs : on (p .identifier) ≡ true → Below (p .transmission) (k .syncs)
 
 pub record ValidTimers (s : Communication) (t : Timers) : Type 0 where
-  -- at most that of 65,535 units
+  -- at most the inhibit time of 65,535 units
   pub inhibit : t .inhibit ≤ inhibitTicks 0xFFFF
   pub heartbeat : Below (s .heartbeat) (t .heartbeat)
   pub clocks : (w : PdoNumber) → ValidClock (pdo s w) (clock t w)

@@ -42,7 +42,7 @@ thoseOf t (k ∷ ks) = cond (t k) (number k ∷ thoseOf t ks) (thoseOf t ks)
 abbrev pub those : (Kind → Bool) → List ℕ
 those t = thoseOf t kinds
 
--- what the test says of each kind, in the same order: a flag for each
+-- what the test says of each kind, in the same order: one flag for each kind
 abbrev pub flagsOf : (Kind → Bool) → List Bool
 flagsOf t = map t kinds
 
@@ -63,15 +63,15 @@ mayShow s identifier good = eqb (s .code) (code operational) && on identifier &&
 abbrev pub isAlerting : Core → Bool
 isAlerting c = mayAlert (c .nmt) (communication c .emergency) (c .timers .inhibit) (good c) (c .announced)
 
--- The condition under which a kind that waits stays: 01's withdrawals are its ends. The SDO reply's is that of the request:
--- Pre-operational or Operational. A PDO's ends when Operational is left, with a missing sample and when it is switched off.
+-- The condition under which a waiting kind stays; 01's withdrawals end it. For the SDO reply it is that of the request:
+-- Pre-operational or Operational. For a PDO it ends when Operational is left, at a missing sample, and when the PDO is switched off.
 abbrev pub mayStay : Core → Kind → Bool
 mayStay c emergency = isAlerting c
 mayStay c sdoReply = isLive c
 mayStay c heartbeat = mayBeat (c .nmt) (communication c .heartbeat)
 mayStay c (tpdo w) = mayShow (c .nmt) (pdo (communication c) w .identifier) (good c)
 
--- The condition under which a kind joins at its moment. Who may join may stay (proofs/Waits.antt, `join-stay`).
+-- The condition under which a kind joins when it is due. A kind that may join may stay (proofs/Waits.antt, `join-stay`).
 abbrev pub mayJoin : Core → Kind → Bool
 mayJoin c emergency = isAlerting c
 mayJoin c sdoReply = isLive c

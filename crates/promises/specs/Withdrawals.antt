@@ -22,7 +22,7 @@ pub data Withdrawal (h : Head) : Call → Kind → Type 0 where
   resets : {f : Received} {r : Reset} {k : Kind} → Commands h f (toReset r) → Withdrawal h (receive f) k
   -- entering Stopped takes all but the heartbeat;
   stops : {f : Received} {k : Kind} → Commands h f (toEnter stopped) → (k ≡ heartbeat → ⊥) → Withdrawal h (receive f) k
-  -- leaving Operational takes both PDOs; (a command naming the present state leaves none)
+  -- leaving Operational takes both PDOs; (a command naming the present state leaves no state)
   leaves : {f : Received} {g : CommandedState} {w : PdoNumber} → Commands h f (toEnter g) → isIn operational (h .core) ≡ true
       → isIn g (h .core) ≡ false → Withdrawal h (receive f) (tpdo w)
   -- a missing sample takes both PDOs;
@@ -31,9 +31,9 @@ pub data Withdrawal (h : Head) : Call → Kind → Type 0 where
   switches-off : {f : Received} {v : ℕ} {w : PdoNumber} → Writes h f (identifierKey w) v → on v ≡ false → Withdrawal h (receive f) (tpdo w)
   -- writing 0 to 1017h takes the heartbeat;
   beats-no-more : {f : Received} → Writes h f 0x1017_00 0 → Withdrawal h (receive f) heartbeat
-  -- the emergency goes when its condition below ends: Pre-operational and Operational are left as above, bit 31 of 1014h is set,
+  -- the emergency goes when its condition below ends: a command leaves Pre-operational or Operational as above, bit 31 of 1014h is set,
   silenced : {f : Received} {v : ℕ} → Writes h f 0x1014_00 v → on v ≡ false → Withdrawal h (receive f) emergency
   -- or the present reading, found or lost, no longer differs from the one last
-  -- announced. (An inhibit time begins by sending it: no withdrawal.)
+  -- announced. (Sending the emergency starts an inhibit time, but sending is no withdrawal.)
   found : {r : ℕ} → r ≤ 1048575 → h .core .announced ≡ true → Withdrawal h (sample (Raw r)) emergency
   lost : h .core .announced ≡ false → Withdrawal h (sample Missing) emergency

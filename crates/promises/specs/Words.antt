@@ -23,7 +23,7 @@ use Rattle.promises.specs.Gap.{nodeOf, isCommand}
 use Rattle.promises.specs.Resets.{restoredBy82}
 use Rattle.promises.specs.Codes.{codeAfter, commandBytes, All, IsFirst}
 
--- A list of calls, call by call: the head after it, its slots, and the frames that these send.
+-- A list of calls, call by call: the head after it, its slots, and the frames that the slots send.
 pub record Follows (h : Head) (cs : List Call) : Type 0 where
   pub none : (after h [] ≡ h) × (slots [] ≡ 0) × (sent h [] ≡ [])
   pub next : (c : Call) → after h (c ∷ cs) ≡ after (step h c) cs
@@ -42,13 +42,13 @@ pub record Orders (n b : ℕ) (f : Received) : Type 0 where
   pub to-node : (getD (f .bytes) 1 0 ≡ 0) ⊎ (getD (f .bytes) 1 0 ≡ n)
   pub first-byte : getD (f .bytes) 0 0 ≡ b
 
--- It is this command, to a node that has booted, and no other frame is. In Initialising frames have no effect.
+-- Exactly such a frame, to a node that has booted, is this command. In Initialising frames have no effect.
 abbrev pub IsCommand : ℕ × Command → Type 0
 IsCommand x =
     (p : PowerUp) (cs : List Call) (f : Received) → let h = after (powered p) cs in
     Commands h f (x .1) ↔ (Orders (nodeOf p) (x .0) f × (codeAfter (nodeOf p) cs ≡ 0x00 → ⊥))
 
--- SYNC (080h, data, length 0 or 1, Operational only), in the state of this code
+-- SYNC (080h, data, length 0 or 1, Operational only), in the state with this code
 pub record Syncs (present : ℕ) (f : Received) : Type 0 where
   pub of-11-bits : f .extended ≡ false
   pub is-data : f .remote ≡ false
@@ -65,7 +65,7 @@ abbrev pub SavesOrLoads : Head → Received → Type 0
 SavesOrLoads h f = (v : ℕ) × (Writes h f 0x1010_01 v ⊎ Writes h f 0x1011_01 v)
 
 pub record Words : Type 0 where
-  -- Power-up takes a node number N and four identity numbers: the head has these, whatever is called.
+  -- Power-up takes a node number N and four identity numbers: the head has these after any calls.
   pub taken : (p : PowerUp) (cs : List Call) → 1 ≤ p .number → p .number ≤ 127 → let d = after (powered p) cs .core .device in
       (d .node ≡ p .number) × (d .identity ≡ p .identity)
   pub follows : (h : Head) (cs : List Call) → Follows h cs
@@ -75,7 +75,7 @@ pub record Words : Type 0 where
   -- SYNC ..
   pub synchronises : (p : PowerUp) (cs : List Call) (f : Received)
       → Synchronises (after (powered p) cs) f ↔ Syncs (codeAfter (nodeOf p) cs) f
-  -- First that applies: of the device as it is, Operational or not. (What is served is `requests` of specs/Codes.antt.)
+  -- First that applies: for the device as it is, Operational or not. (`requests` of specs/Codes.antt says what is served.)
   pub due : (p : PowerUp) (cs : List Call) (f : Received) → AreBytes (f .bytes) → let h = after (powered p) cs in
       Exactly (h .core .device) (eqb (codeAfter (nodeOf p) cs) 0x05) (f .bytes) (dueTo h f)
   -- An accepted write is a served request that gives the entry of key k the value v.
@@ -85,7 +85,7 @@ pub record Words : Type 0 where
   pub below-2000h : (i : ℕ) → (restoredBy82 i ≡ true) ↔ ((i < 0x2000) ⊎ (i ≡ 0x6200))
   -- A slot sends the first.
   pub firsts : (k : Kind) (h : Head) → IsFirst k h ↔ ((ks : List ℕ) × (waiting (h .line) ≡ number k ∷ ks))
-  -- One call: no other alters the settings, the saved set,
+  -- For one call: no other changes the settings, the saved set,
   pub settings-by : (h : Head) → Reachable h → (c : Call)
       → (step h c .core .device .settings ≡ h .core .device .settings) ⊎ ((f : Received) × (c ≡ receive f) × WritesOrResets h f)
   pub saved-by : (h : Head) → Reachable h → (c : Call)

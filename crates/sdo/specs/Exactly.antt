@@ -60,11 +60,11 @@ AsLong f w = getD f 0 0 % 2 ≡ 1 → 4 - getD f 0 0 / 4 % 4 ≡ w
 abbrev pub WritesLength : List ℕ → ℕ → Type 0
 WritesLength f p = WritesRw f p × AsLong f (width (rowAt p))
 
--- The data are bytes 4..7; the first so many of them,
+-- The data are bytes 4..7; the first w of them,
 abbrev pub firstData : ℕ → List ℕ → List ℕ
 firstData w f = take w (getD f 4 0 ∷ getD f 5 0 ∷ getD f 6 0 ∷ getD f 7 0 ∷ [])
 
--- and the value that a write gives to the entry at place p: as many as it has, low byte first. Data past its length are ignored.
+-- and the value that a write gives to the entry at place p: as many data bytes as the entry has, low byte first. Others are ignored.
 abbrev pub content : List ℕ → ℕ → ℕ
 content f p = number (firstData (width (rowAt p)) f)
 
@@ -117,7 +117,7 @@ Barred d f = (p : ℕ) × (WritesValue d f p × (barred d (key (rowAt p)) (conte
 abbrev pub BlankRead : Device → Bool → List ℕ → Type 0
 BlankRead d o f = (p : ℕ) × (ReadsFrom f p × (shownAt d o p ≡ Blank))
 
--- What none of them stops: a value has the entry's length,
+-- A request that no step stops: a value has the entry's length,
 abbrev pub ValueRead : Device → Bool → List ℕ → ℕ → ℕ → Type 0
 ValueRead d o f w n = (p : ℕ) × (ReadsFrom f p × ((width (rowAt p) ≡ w) × (shownAt d o p ≡ Number n)))
 
@@ -127,7 +127,7 @@ ValueWritten d f k v =
     (p : ℕ)
     × (WritesValue d f p × ((barred d (key (rowAt p)) (content f p) ≡ false) × ((key (rowAt p) ≡ k) × (content f p ≡ v))))
 
--- First that applies: x is each code exactly when its step applies and none before it does.
+-- First that applies: x is the code of a step exactly when that step applies and none before it does.
 pub record Exactly (d : Device) (o : Bool) (f : List ℕ) (x : Due) : Type 0 where
   -- 4 abort (no effect, no reply)
   pub nothing : (x ≡ none) ↔ ClientAborts f

@@ -49,8 +49,8 @@ Told d o f x (value w n) = Valued d o f x w n
 Told d o f x (confirmation k v) = Confirmed d f x k v
 Told d o f x (abort code) = Unit {0}
 
--- What counts of a request: the top three bits, the index and the sub-index; of a write also bits 1 and 0, bits 3..2 where bit 0
--- is set, and as many bytes of the data as the entry has. Data past its length are ignored.
+-- What matters in a request: the top three bits, the index and the sub-index; in a write also bits 1 and 0, bits 3..2 if bit 0 is set,
+-- and as many data bytes as the entry has. Data past its length are ignored.
 pub record Alike (f g : List ℕ) : Type 0 where
   pub tops : getD f 0 0 / 32 ≡ getD g 0 0 / 32
   pub low-index : getD f 1 0 ≡ getD g 1 0
@@ -78,7 +78,7 @@ served d o f = answer f (due d o f)
 pub record Laws (d : Device) (o : Bool) (f : List ℕ) : Type 0 where
   -- A request taken apart is a read, a write, or a reason to abort.
   pub taken : Taken f
-  -- First that applies: what is due is that, and nothing else is
+  -- First that applies: exactly that reply is due
   pub exactly : AreBytes f → Exactly d o f (due d o f)
   pub only : AreBytes f → (x : Due) → Exactly d o f x → x ≡ due d o f
   pub told : Told d o f (lookup (indexOf f) (subOf f)) (due d o f)
@@ -105,12 +105,12 @@ pub record Laws (d : Device) (o : Bool) (f : List ℕ) : Type 0 where
       → served d o f .bytes ≡ 0x60 ∷ getD f 1 0 ∷ getD f 2 0 ∷ getD f 3 0 ∷ replicate 4 0
   -- abort 80h with the code, low byte first
   pub aborts : (c : ℕ) → due d o f ≡ abort c → served d o f .bytes ≡ 0x80 ∷ getD f 1 0 ∷ getD f 2 0 ∷ getD f 3 0 ∷ lowFirst 4 c
-  -- what is confirmed is written, and nothing else is;
+  -- what is confirmed is written, and nothing else is written;
   pub writes : (k v : ℕ) → (served d o f .effect ≡ Write k v) ↔ (due d o f ≡ confirmation k v)
   pub carries : (k v : ℕ) → due d o f ≡ confirmation k v → carriedOut d (served d o f .effect) ≡ written d k v
   -- an aborted write alters no entry, nor does a read: only what is answered 60h alters the device
   pub unaltered : (getD (served d o f .bytes) 0 0 ≡ 0x60 → ⊥) → carriedOut d (served d o f .effect) ≡ d
   -- an accepted write leaves each entry with a value that it accepts
   pub valid : ValidDevice d → ValidDevice (carriedOut d (served d o f .effect))
-  -- Reserved bits are ignored: requests alike in what counts get the same
+  -- Reserved bits are ignored: requests that agree in what matters get the same reply
   pub reserved : (g : List ℕ) → Alike f g → due d o f ≡ due d o g

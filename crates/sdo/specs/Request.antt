@@ -46,7 +46,7 @@ reading f = eqb (top f) 2
 abbrev pub writing : List ℕ → Bool
 writing f = eqb (top f) 1 && eqb (byte f 0 / 2 % 2) 1
 
--- with bit 0 set the length is 4 less bits 3..2, with bit 0 clear it is the entry's, which stands as 0 here.
+-- with bit 0 set the length is 4 less bits 3..2, with bit 0 clear it is the entry's, written as 0 here.
 abbrev pub saidLength : ℕ → ℕ
 saidLength b = cond (eqb (b % 2) 1) (4 - b / 4 % 4) 0
 

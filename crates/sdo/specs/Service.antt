@@ -20,7 +20,7 @@ use Rattle.sdo.specs.declared.reply.Served.{Served}
 use Rattle.sdo.specs.Request.{byte, indexOf, subOf, dataOf, aborting, reading, writing}
 use Rattle.sdo.specs.Reply.{noReply, answered, confirmed, aborted}
 
--- What is due: nothing, the value of an entry of so many bytes, the confirmation that an entry got a value, or an abort code.
+-- What is due: nothing, the value of an entry and its number of bytes, the confirmation that an entry got a value, or an abort code.
 pub data Due : Type 0 where
   none : Due
   value : ℕ → ℕ → Due
@@ -62,7 +62,7 @@ lengthOf f width = cond (eqb (byte f 0 % 2) 1) (4 - byte f 0 / 4 % 4) width
 abbrev pub cutTo : ℕ → ℕ → ℕ
 cutTo width content = cond (eqb width 1) (content % 256) (cond (eqb width 2) (content % 65536) (content % 4294967296))
 
--- "First that applies", of the request f for x, what is found of the entry asked for; a write that none of them stops is confirmed.
+-- "First that applies" for the request f, where x is what the lookup of the entry found. A write that no step stops is confirmed.
 abbrev pub steps : Device → Bool → List ℕ → Found → List (Bool × Due)
 steps d o f x =
     let r = rowOf x in

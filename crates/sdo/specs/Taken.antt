@@ -20,10 +20,10 @@ asks f a = Asked (record { index = getD f 1 0 + 256 * getD f 2 0; sub = getD f 3
 
 pub record Taken (f : List ℕ) : Type 0 where
   pub read : Reads f → takenApart f ≡ asks f Read
-  -- with bit 0 set the length is 4 less bits 3..2; with bit 0 clear it is the entry's, which stands as 0 here
+  -- with bit 0 set the length is 4 less bits 3..2; with bit 0 clear it is the entry's, written as 0 here
   pub write-said : Writes f → getD f 0 0 % 2 ≡ 1 → takenApart f ≡ asks f (Write (4 - getD f 0 0 / 4 % 4) (number (firstData 4 f)))
   pub write-unsaid : Writes f → getD f 0 0 % 2 ≡ 0 → takenApart f ≡ asks f (Write 0 (number (firstData 4 f)))
   pub neither : (Reads f → ⊥) → (Writes f → ⊥) → takenApart f ≡ UnknownCommand
-  -- by the enums' numbers
+  -- with the numbers of the enums
   pub top-bits : (a : Ask) → takenApart f ≡ Asked a → getD f 0 0 / 32 ≡ accessTop (a .access)
   pub aborts : (requestCode (takenApart f) ≡ 0) ↔ (Reads f ⊎ Writes f)

@@ -8,7 +8,7 @@ use Rattle.parts.specs.declared.Nmt.{Nmt}
 use Rattle.promises.specs.States.{pdo, live}
 use Rattle.promises.specs.WaitingLine.{Kind, emergency, sdoReply, heartbeat, tpdo, number, those, mayAlert, mayBeat, mayShow}
 
--- `mayJoin`, of what it depends on
+-- `mayJoin`, as a function of the parts that it depends on
 abbrev pub mayJoinAt : Nmt → Communication → ℕ → Bool → Bool → Kind → Bool
 mayJoinAt s k inhibit good announced emergency = mayAlert s (k .emergency) inhibit good announced
 mayJoinAt s k inhibit good announced sdoReply = live s

@@ -31,16 +31,16 @@ joinsIn l (k ∷ ks) = joinsIn (joinIn l k) ks
 abbrev pub afterIn : Bool → List ℕ → List ℕ → List ℕ → List ℕ
 afterIn slot out into l = joinsIn (withdrawsIn (cond slot (takenIn l) l) out) into
 
--- a kind where it is due, and else none
+-- a kind if it is due, else none
 abbrev pub ifDue : Bool → ℕ → List ℕ
 ifDue due k = cond due (k ∷ []) []
 
--- those of a list that are due, in its order: `thoseDue due order` is what joins in a call
+-- those of a list that are due, in its order: `thoseDue due order` are the kinds that join in a call
 abbrev pub thoseDue : (ℕ → Bool) → List ℕ → List ℕ
 thoseDue due [] = []
 thoseDue due (k ∷ ks) = cond (due k) (k ∷ thoseDue due ks) (thoseDue due ks)
 
--- whether a kind is flagged, where the flags stand in the order of the kinds' numbers
+-- whether a kind is flagged; the flags stand in the order of the kinds' numbers
 abbrev pub flagged : List Bool → ℕ → Bool
 flagged flags k = getD flags (k - 1) false
 

@@ -34,8 +34,8 @@ pub data Among : List ℕ → List ℕ → Type 0 where
   skip : {x : ℕ} {xs ys : List ℕ} → Among xs ys → Among xs (x ∷ ys)
   keep : {x : ℕ} {xs ys : List ℕ} → Among xs ys → Among (x ∷ xs) (x ∷ ys)
 
--- After a call stand those who stayed, in the order in which they waited, and behind them those who came, in the order in which
--- they joined.
+-- After a call the line has first the kinds that stayed, in the order in which they waited, and then those that came, in the order
+-- in which they joined.
 pub record InOrder (slot : Bool) (out into ws : List ℕ) : Type 0 where
   pub stayed : List ℕ
   pub came : List ℕ
@@ -52,20 +52,20 @@ pub record Laws (n : ℕ) : Type 0 where
   pub once : (k : ℕ) (a b : List ℕ) → Kinds n (a ++ k ∷ b) → (0 < k) × (k ≤ n) × (has k a ≡ false) × (has k b ≡ false)
   -- so that a kind that does not wait finds room in n places
   pub room : (k : ℕ) (ws : List ℕ) → Kinds n ws → 0 < k → k ≤ n → has k ws ≡ false → length ws < n
-  -- what the code does to the places, it does to the line that they hold
+  -- what the code does to the places happens to the line that they hold
   pub none : Holds n (pad n []) []
   pub joins : {l ws : List ℕ} (k : ℕ) → 0 < k → k ≤ n → Holds n l ws → Holds n (joinIn l k) (join ws k)
   pub withdraws : {l ws : List ℕ} (k : ℕ) → Holds n l ws → Holds n (withdrawIn l k) (withdraw ws k)
   pub taken : {l ws : List ℕ} → Holds n l ws → Holds n (takenIn l) (drop 1 ws)
   pub first-of : {l ws : List ℕ} → Holds n l ws → first l ≡ first ws
-  -- none is sent only where none waits
+  -- no frame is sent only if none waits
   pub idle : {l ws : List ℕ} → Holds n l ws → first l ≡ 0 → ws ≡ []
   pub waits : {l ws : List ℕ} (k : ℕ) → 0 < k → Holds n l ws → has k l ≡ has k ws
   pub all : {l ws : List ℕ} → Holds n l ws → waiting l ≡ ws
   -- a call leaves a proper line, in the places too
   pub holds : {l ws : List ℕ} (slot : Bool) (out into : List ℕ) → Named n into → Holds n l ws
       → Holds n (afterIn slot out into l) (after slot out into ws)
-  -- those who waited and stay are in their order, and those who come stand behind them in theirs
+  -- those that waited and stay keep their order, and those that come stand behind them in their own order
   pub in-order : (slot : Bool) (out into ws : List ℕ) → InOrder slot out into ws
   -- a kind waits after a call exactly if it joined, or waited and was neither withdrawn nor sent
   pub waits-after : (slot : Bool) (out into ws : List ℕ) (k : ℕ) → Kinds n ws
@@ -80,10 +80,10 @@ pub record InTurn : Type 0 where
   pub among : (due : ℕ → Bool) (ks : List ℕ) → Among (thoseDue due ks) ks
   -- all that are due, and no others
   pub exactly : (due : ℕ → Bool) (ks : List ℕ) (k : ℕ) → has k (thoseDue due ks) ≡ (due k && has k ks)
-  -- they are kinds 1 to n where the list's are, and those of the order are
+  -- they are kinds 1 to n if those of the list are, and those of `order` are
   pub named : {n : ℕ} {ks : List ℕ} (due : ℕ → Bool) → Named n ks → Named n (thoseDue due ks)
   pub all-named : Named places order
-  -- those who come in a call stand in the order just given
+  -- those that come in a call stand in the order just given
   pub came-in-turn : (slot : Bool) (due : ℕ → Bool) (out ws : List ℕ) (u : InOrder slot out (thoseDue due order) ws)
       → Among (u .came) (1 ∷ 2 ∷ 3 ∷ 4 ∷ 5 ∷ [])
   -- each flag is that of the kind with its number

@@ -50,6 +50,6 @@ abbrev pub withdraw : List ℕ → ℕ → List ℕ
 withdraw [] k = []
 withdraw (x ∷ xs) k = cond (eqb x k) (withdraw xs k) (x ∷ withdraw xs k)
 
--- A slot sends the first: its kind, 0 where none waits. `drop 1` is the line without it.
+-- A slot sends the first: its kind, or 0 if none waits. `drop 1` is the line without it.
 abbrev pub first : List ℕ → ℕ
 first ws = getD ws 0 0

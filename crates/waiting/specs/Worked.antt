@@ -28,12 +28,12 @@ pub record Worked : Type 0 where
   pub then-heartbeat : takenIn three ≡ pad places (heartbeat ∷ tpdo1 ∷ [])
   pub then-tpdo1 : takenIn (takenIn three) ≡ pad places (tpdo1 ∷ [])
   pub then-none : takenIn (takenIn (takenIn three)) ≡ none
-  -- none is sent where none waits
+  -- no frame is sent if none waits
   pub none-sent : first none ≡ 0
   pub none-taken : takenIn none ≡ none
   -- no priority: TPDO1 waits, then an SDO reply joins, and TPDO1 is sent first
   pub no-priority : first (joinIn (pad places (tpdo1 ∷ [])) sdoReply) ≡ tpdo1
-  -- due in one call they join in the order given, behind those that wait
+  -- kinds that are due in one call join in the order given, behind those that wait
   pub in-turn : joinsIn none (thoseDue (λ k. has k (tpdo2 ∷ heartbeat ∷ emergency ∷ [])) order)
       ≡ pad places (emergency ∷ heartbeat ∷ tpdo2 ∷ [])
   pub behind : joinsIn three (thoseDue (λ k. has k (tpdo2 ∷ tpdo1 ∷ sdoReply ∷ [])) order)
