@@ -25,7 +25,7 @@ const BIT_31: u32 = 0x8000_0000;
 
 const BIT_11: u32 = 0x800;
 
-// The abort code that is due to a write, for its value and then for the state; 0 for none.
+// The abort code due to a write: first for the value, then for the state; 0 for none.
 pub fn abort_code(device: Device, row: Row, value: u32) -> u32
     ensures { λ r. ⌜ r ≡ abortCode device row value ⌝ }
 {
@@ -98,7 +98,7 @@ fn barred(device: Device, key: u32, value: u32) -> bool
         | pdo_barred(TPDO2, pdo2, key, value)
 }
 
-// Whether a PDO that is on bars a write: of another identifier that leaves it on, or of its type.
+// Whether a PDO that is on forbids a write: one of another identifier that leaves it on, or one of its type.
 fn pdo_barred(index: u16, pdo: Pdo, key: u32, value: u32) -> bool
     ensures { λ r. ⌜ r ≡ pdoBarred index pdo key value ⌝ }
 {

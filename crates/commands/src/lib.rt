@@ -18,7 +18,7 @@ use transcript::Reply;
 // A line not of its form.
 const NOT_OF_ITS_FORM: u8 = 9;
 
-// More than any sample that is taken, and the most that the head can be handed.
+// Above every sample that the head takes, and the highest number that its call can be given.
 const HIGHEST: u64 = 0xFFFF_FFFF;
 
 pub fn obey(head: Head, said: Parsed) -> Reply
@@ -62,7 +62,7 @@ fn tick(head: Head, n: u16) -> Head
     next
 }
 
-// A number that 32 bits cannot hold is refused as the highest that they can hold is.
+// A number that does not fit 32 bits is refused like the highest number that does.
 fn sample(head: Head, number: u64) -> Reply
     requires { ⌜ Valid head ⌝ }
     ensures { λ r. ⌜ r ≡ replyOf (tells (called head (samples (raw number)))) ⌝ }
@@ -73,7 +73,7 @@ fn sample(head: Head, number: u64) -> Reply
     told(head::sample(head, Sensor::Raw(number as u32)))
 }
 
-// A refusal prints its number, and what is not refused nothing.
+// A refusal prints its number; without a refusal nothing is printed.
 fn told(answer: Answer) -> Reply
     ensures { λ r. ⌜ r ≡ replyOf (tells answer) ⌝ }
 {

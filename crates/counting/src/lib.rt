@@ -9,7 +9,7 @@ pub struct Count {
     pub ends: bool,
 }
 
-// One more of a period; at its end the count begins again. The first test keeps the sum from running over.
+// Counts one more; at the end of the period the count starts again. The first test keeps the sum from overflowing.
 pub fn counted(period: u32, count: u32) -> Count
     ensures { λ r. ⌜ r ≡ oneMore period count ⌝ }
 {

@@ -10,7 +10,7 @@ ghost use Rattle.dictionary.specs.Worked.{Worked};
 
 pub mod read;
 
-// It does nothing: what it ensures are the statements of the crate, so that the crate is proved only if they are.
+// This function does nothing. It ensures the statements of the crate, so the crate is proved only if they are.
 fn statements()
     ensures { λ r. ⌜ AcceptedLaws × ValidLaws × WriteLaws × ReadLaws × Laws × EffectLaws × Worked ⌝ }
 {}

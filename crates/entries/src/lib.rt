@@ -7,7 +7,7 @@ use position::Profile;
 
 pub mod table;
 
-// Every number of the settings is 32 bits wide, as the data of a request is, whatever its entry's type.
+// Every number of the settings has 32 bits, like the data of a request, whatever the type of its entry.
 #[repr(C)]
 pub struct Pdo {
     pub identifier: u32,
@@ -89,7 +89,7 @@ pub struct Device {
     pub saved: Settings,
 }
 
-// It does nothing: what it ensures are the statements of the crate, so that the crate is proved only if they are.
+// This function does nothing. It ensures the statements of the crate, so the crate is proved only if they are.
 fn statements()
     ensures { λ r. ⌜ Laws ⌝ }
 {}

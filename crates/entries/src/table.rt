@@ -108,7 +108,7 @@ pub fn find(index: u16, sub: u8) -> Found
     }
 }
 
-// Of an index with the sub-indices below `count`, the first of which stands at `first`.
+// For an index with the sub-indices below `count`; sub-index 0 stands at place `first`.
 fn by_sub_index(first: u8, count: u8, sub: u8) -> Found
     ensures { λ r. ⌜ r ≡ cond (ltb sub count) (At (first + sub)) NoSubIndex ⌝ }
 {
@@ -118,7 +118,7 @@ fn by_sub_index(first: u8, count: u8, sub: u8) -> Found
     Found::NoSubIndex
 }
 
-// Of an index with the sub-indices 0, 1, 2 and 5.
+// For an index with the sub-indices 0, 1, 2 and 5.
 fn pdo_by_sub_index(first: u8, sub: u8) -> Found
     ensures { λ r. ⌜ r ≡ cond (eqb sub 5) (At (first + 3)) (cond (ltb sub 3) (At (first + sub)) NoSubIndex) ⌝ }
 {

@@ -75,7 +75,7 @@ pub fn feed(session: Session, byte: u8) -> Fed
     }
 }
 
-// A chunk of input; what it prints is put at the start of `out`. A line prints at most 64 bytes, so that much room for each byte is enough.
+// A chunk of input; what it prints is written to the start of `out`. A line prints at most 64 bytes, so 64 for each byte of input are enough.
 pub fn chunk(session: Session, input: &[u8], out: &mut [u8]) -> Done
     requires { ⌜ Valid (session .head) ⌝ }
     requires { ⌜ longest * length (now input) ≤ length (now out) ⌝ }
@@ -94,7 +94,7 @@ pub fn chunk(session: Session, input: &[u8], out: &mut [u8]) -> Done
     Done { session: next, len }
 }
 
-// A text behind the first `at` bytes of `out`. The answer is where it ends.
+// Writes a text after the first `at` bytes of `out`. The answer is where it ends.
 fn put(out: &mut [u8], at: usize, text: Line) -> usize
     requires { ⌜ at + longest ≤ length (now out) ⌝ }
     ensures { λ r. ⌜ Put (now (out .entry)) at (held text) (now (out .exit)) r ⌝ }

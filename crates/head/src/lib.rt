@@ -90,7 +90,7 @@ pub fn receive(head: Head, frame: Received) -> Answer
     }
 }
 
-// 1 ms went by.
+// 1 ms has passed.
 pub fn tick(head: Head) -> Head
     requires { ⌜ Valid head ⌝ }
     ensures { λ r. ⌜ Ticks head r ⌝ }
@@ -192,7 +192,7 @@ pub fn sample_raw(head: Head, raw: u32) -> Answer
     }
 }
 
-// A frame can be sent: the first that waits is, or none exactly if none waits.
+// A frame can be sent: the answer is the first that waits, or none exactly if none waits.
 pub fn slot(head: Head) -> Sent
     requires { ⌜ Valid head ⌝ }
     ensures { λ r. ⌜ Slots head r ⌝ }

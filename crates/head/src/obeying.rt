@@ -11,7 +11,7 @@ use steps::hear;
 use steps::hear::Heard;
 use tpdo::sync;
 
-// The head once the frame is obeyed; as it was where the frame means nothing.
+// The head after it obeyed the frame; unchanged if the frame means nothing.
 pub fn obeyed(head: Head, heard: Heard) -> Head
     requires { ⌜ Writable head heard ⌝ }
     ensures { λ r. ⌜ r ≡ obeyedIn head heard (heard .way) ⌝ }

@@ -7,7 +7,7 @@ ghost use Rattle.head.specs.Sent.{sentIn, bootedIn, announcedIn, takenIn
 use parts::Head;
 use steps::slot;
 
-// The head once the slot's frame is sent; as it was where there is none.
+// The head after the slot sent its frame; unchanged if there is none.
 pub fn sent(head: Head, way: u8) -> Head
     requires { ⌜ head .core .device .settings .communication .inhibit ≤ 0xFFFF ⌝ }
     requires { ⌜ Holds places (head .line) (waitingIn (head .line)) ⌝ }

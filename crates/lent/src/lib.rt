@@ -21,7 +21,7 @@ use tpdo::sync;
 
 mod question;
 
-// A position, if there is one; it is 0 otherwise, and no position.
+// A position, if it is known. Otherwise the number is 0 and means nothing.
 #[repr(C)]
 pub struct Located {
     pub known: bool,

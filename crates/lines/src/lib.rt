@@ -14,7 +14,7 @@ pub fn empty() -> Line
     }
 }
 
-// How many of its bytes are in use.
+// The number of bytes in use.
 pub fn kept(line: Line) -> usize
     ensures { λ r. ⌜ r ≡ atMost longest (line .len) ⌝ }
 {

@@ -19,7 +19,7 @@ const RESET_NODE: u8 = 0x81;
 
 const RESET_COMMUNICATION: u8 = 0x82;
 
-// What a command does: a state is entered, or the settings are reset, all of them or those of communication; or nothing.
+// What a command does: it enters a state, or resets all settings or those of communication, or does nothing.
 pub struct Order {
     pub enters: bool,
     pub state: Nmt,

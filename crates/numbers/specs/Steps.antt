@@ -22,6 +22,6 @@ numberOf base most at w = cond (isNumber base most w) (Is (value base w) (at + l
 abbrev pub numberAt : ℕ → ℕ → List ℕ → ℕ → Number
 numberAt base most l at = numberOf base most at (word (drop at l))
 
--- the number of a field that ends here, n digits long
+-- the number of a field that ends here and has n digits
 abbrev pub closedBy : ℕ → ℕ → ℕ → Number
 closedBy v n end = cond (eqb n 0) Not (Is v end)

@@ -10,7 +10,7 @@ pub enum Number {
     Is { value: u64, end: usize },
 }
 
-// The value of a byte that is no digit: no base has it.
+// The value of a byte that is no digit; no base has such a digit.
 const NO_DIGIT: u64 = 16;
 
 // The field that begins at `at`, read as a number of 1 to `most` digits. Ten hex digits fit in 64 bits.
@@ -40,7 +40,7 @@ pub fn read(line: &[u8], at: usize, base: u64, most: usize) -> Number
     closed(value, digits, end)
 }
 
-// The number of a field that ends here; a field of no digits is none.
+// The number of a field that ends here; a field without digits is no number.
 fn closed(value: u64, digits: usize, end: usize) -> Number
     ensures { λ r. ⌜ r ≡ closedBy value digits end ⌝ }
 {

@@ -144,11 +144,11 @@ pub record Asked : Type 0 where
   pub feeding·start : AsksNothing feeding.start.ended feeding.start.Reads.Asked
   pub feeding·answer : AsksOnly feeding.answer.ended (λ κs a. Reachable (a .0)) feeding.answer.Reads.Asked
   pub feeding·feed : AsksOnly feeding.feed.ended (λ κs a. Reachable (a .0 .head)) feeding.feed.Reads.Asked
-  -- a line prints at most 64 bytes: room for so many for each byte of input
+  -- a line prints at most 64 bytes: the buffer has 64 for each byte of input
   pub feeding·chunk : AsksOnly feeding.chunk.ended (λ κs a. (Reachable (a .0 .head)) × (longest * length (now (a .1 .0)) ≤ length (now (a .1 .1 .0)))) feeding.chunk.Reads.Asked
   pub feeding·close : AsksOnly feeding.close.ended (λ κs a. Reachable (a .0 .head)) feeding.close.Reads.Asked
 
--- The calls of `lent`: their clauses speak of any memory, so that this is no statement that a function can ensure.
+-- The calls of `lent`: their clauses are about any memory, so no function can ensure this statement.
 pub record LentAsked : Type 2 where
   pub lent·haybleater-power-up : AsksNothingOf lent.haybleater_power_up.ended (λ M. lent.haybleater_power_up.clauses {M = M})
   pub lent·haybleater-receive : AsksOnlyOf lent.haybleater_receive.ended (λ κs a. Reachable (now (a .0))) (λ κs a. Valid (now (a .0))) (λ M. lent.haybleater_receive.clauses {M = M})

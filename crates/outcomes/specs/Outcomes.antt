@@ -142,7 +142,7 @@ pub record Outcomes : Type 0 where
   pub feeding·chunk : OneOutcome feeding.chunk.ended feeding.chunk.Reads.Learnt
   pub feeding·close : OneOutcome feeding.close.ended feeding.close.Reads.Learnt
 
--- The calls of `lent`: their clauses speak of any memory, so that this is no statement that a function can ensure.
+-- The calls of `lent`: their clauses are about any memory, so no function can ensure this statement.
 pub record LentOutcomes : Type 2 where
   pub lent·haybleater-power-up : OneOutcomeOf lent.haybleater_power_up.ended (λ κs a r e. PowersUp (a .1 .0 .node) (a .1 .0 .identity) (answered r (now (e .0)))) (λ M. lent.haybleater_power_up.clauses {M = M})
   pub lent·haybleater-receive : OneOutcomeOf lent.haybleater_receive.ended (λ κs a r e. Receives (now (a .0)) (a .1 .0) (answered r (now (e .0)))) (λ M. lent.haybleater_receive.clauses {M = M})

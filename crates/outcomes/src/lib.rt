@@ -7,7 +7,7 @@ ghost use Rattle.outcomes.specs.Outcomes.{Outcomes};
 ghost use Rattle.outcomes.specs.Talks.{Talks};
 ghost use Rattle.outcomes.specs.Told.{ToldRightly};
 
-// It does nothing: what it ensures are the statements of the crate, so that the crate is proved only if they are.
+// This function does nothing. It ensures the statements of the crate, so the crate is proved only if they are.
 fn statements()
     ensures { λ _. ⌜ Outcomes × Asked × ByValue × Lent × ToldRightly × Talks ⌝ }
 {}

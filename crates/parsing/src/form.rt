@@ -8,7 +8,7 @@ use numbers::Number;
 use text::Command;
 use text::Parsed;
 
-// Where the first field begins, behind the key and a space.
+// Where the first field starts, after the key and a space.
 const FIRST: usize = 2;
 
 const HEX: u64 = 16;
@@ -54,7 +54,7 @@ pub fn frame(line: &[u8]) -> Parsed
     pairs(line, before, identifier as u32, length as u8)
 }
 
-// The frame whose bytes stand behind a length that ends at `before`.
+// The frame whose bytes come after a length that ends at `before`.
 fn pairs(line: &[u8], before: usize, identifier: u32, length: u8) -> Parsed
     ensures { λ r. ⌜ r ≡ framed identifier length (behind (now (line .entry)) before) ⌝ }
 {
@@ -85,7 +85,7 @@ fn pairs(line: &[u8], before: usize, identifier: u32, length: u8) -> Parsed
     }
 }
 
-// As many as the length says, but 8 where it is 9.
+// As many as the length says, but 8 if it is 9.
 pub fn pairs_for(length: u8) -> usize
     ensures { λ r. ⌜ r ≡ pairsFor length ⌝ }
 {
@@ -125,7 +125,7 @@ pub fn sample(line: &[u8]) -> Parsed
     plain(Command::Sample(value))
 }
 
-// Whether `-` is all that stands behind the key.
+// Whether `-` is all that comes after the key.
 fn minus(line: &[u8]) -> bool
     ensures { λ r. ⌜ r ≡ same (drop 2 (now (line .entry))) (ascii "-") ⌝ }
 {

@@ -7,7 +7,7 @@ use text::Parsed;
 
 mod form;
 
-// What a gathered line says. One that is too long is not of its form, whatever it begins with.
+// What a gathered line says. A line that is too long is not of its form, whatever its first bytes are.
 pub fn parse_line(line: Line) -> Parsed
     ensures { λ r. ⌜ r ≡ saysLine line ⌝ }
 {

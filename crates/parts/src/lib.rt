@@ -21,14 +21,14 @@ impl Nmt {
     pub const PRE_OPERATIONAL: Nmt = Nmt { code: 0x7F };
 }
 
-// What was counted of a PDO since entry to Operational or since it was switched on; the ticks also since a write to its sub 5.
+// The counts of a PDO since entry to Operational or since it was switched on; for the ticks also since a write to its sub 5.
 #[repr(C)]
 pub struct Clock {
     pub ticks: u32,
     pub syncs: u32,
 }
 
-// The inhibit time's ticks left, and the ticks of the heartbeat since its write or since boot-up.
+// The ticks left of the inhibit time, and the ticks of the heartbeat since its write or since boot-up.
 #[repr(C)]
 pub struct Timers {
     pub inhibit: u32,
@@ -62,7 +62,7 @@ pub struct Answer {
     pub head: Head,
 }
 
-// The frame to send, if one waited (it is all 0 otherwise, and not to be sent), and the head.
+// The frame to send, if one waited, and the head. If none waited the frame is all 0 and must not be sent.
 #[repr(C)]
 pub struct Sent {
     pub waited: bool,

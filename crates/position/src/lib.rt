@@ -18,7 +18,7 @@ pub struct Profile {
     pub offset: i32,
 }
 
-// 6002h with scaling off, and where scaling is switched on.
+// 6002h with scaling off, and when scaling is switched on.
 pub const FULL_RANGE: u32 = 1_048_576;
 
 pub const SCALED_RANGE: u32 = 1_000_000;
@@ -110,7 +110,7 @@ fn offset_of(preset: u32, directed: u32) -> i32
     preset as i32 - directed as i32
 }
 
-// It does nothing: what it ensures are the statements of the crate, so that the crate is proved only if they are.
+// This function does nothing. It ensures the statements of the crate, so the crate is proved only if they are.
 fn statements()
     ensures { λ r. ⌜ Laws × Worked ⌝ }
 {}

@@ -58,7 +58,7 @@ fn hex(n: u8) -> u8
     b'A' - 10 + n
 }
 
-// What a slot prints where no frame waits.
+// What a slot prints if no frame waits.
 pub fn none() -> Line
     ensures { λ r. ⌜ r ≡ lineOf noneText ⌝ }
 {

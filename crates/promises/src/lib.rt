@@ -4,7 +4,7 @@ ghost use Rattle.promises.specs.Demand1.{Demand1};
 ghost use Rattle.promises.specs.Demand2.{Demand2};
 ghost use Rattle.promises.specs.Demand3.{Demand3};
 
-// It does nothing: what it ensures are the three demands, so that the crate is proved only if they are.
+// This function does nothing. It ensures the three demands, so the crate is proved only if they are.
 fn demands()
     ensures { λ _. ⌜ Demand1 × Demand2 × Demand3 ⌝ }
 {}

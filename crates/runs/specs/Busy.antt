@@ -41,7 +41,7 @@ slow =
     slot ∷ request (bytes 0x2B 0x15 0x10 0x00 0xE8 0x03 0 0) ∷ slot ∷ slot ∷ sample (Raw 7) ∷ replicate 100 tick ++ slot ∷ tick ∷ slot ∷ []
 
 pub record Busy : Type 0 where
-  -- what waits when the reading goes missing, and what waits then
+  -- what waits when the reading goes missing, and what waits after that
   pub before : after node1 busyLine .line ≡ tpdo1 ∷ heartbeat ∷ sdoReply ∷ tpdo2 ∷ 0 ∷ []
   pub then : step (after node1 busyLine) (sample Missing) .line ≡ heartbeat ∷ sdoReply ∷ emergency ∷ 0 ∷ 0 ∷ []
   pub live : isLive (after node1 busyLine .core) ≡ true
@@ -54,7 +54,7 @@ pub record Busy : Type 0 where
   -- no position frame leaves; without the missing sample one would
   pub hidden : among isPosition (sent (after node1 busyLine) (sample Missing ∷ busyMaster)) ≡ false
   pub shown : among isPosition (sent (after node1 busyLine) busyMaster) ≡ true
-  -- a reset and its boot-up begin anew
+  -- a reset and its boot-up start again
   pub anew : lastEmergency 1 (sent node1 (busyLine ++ command 0x81 ∷ slot ∷ [])) ≡ none
   -- While the inhibit time runs the gap is not told; from its end it is.
   pub inhibited : after node1 held .core .timers .inhibit ≡ 11
@@ -64,7 +64,7 @@ pub record Busy : Type 0 where
   pub told-then : lastEmergency 1 (sent node1 ((held ++ wait) ++ busyMaster)) ≡ some (saysMissing 1)
   -- After boot-up the emergency leaves at the next slot, as `Emergency` asks.
   pub leaves : Alerts 1 (after node1 (slot ∷ []))
-  -- Under a long inhibit time too good is told again.
+  -- "good" is also announced again under a long inhibit time.
   pub good-again : sent node1 slow
       ≡ frame 0x701 1 (0x00 ∷ [])
       ∷ frame 0x081 8 (bytes 0x00 0x50 0x01 0 0 0 0 0)

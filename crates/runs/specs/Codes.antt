@@ -13,17 +13,17 @@ use Rattle.promises.specs.Node1.{node1, writes, command, sync}
 use Rattle.promises.specs.Worked.{answer, sends, missing, at}
 use Rattle.promises.specs.Codes.{says, codeAfter, IsFirst}
 
--- Node 1, 1017h = 1, so that each tick is a heartbeat's.
+-- Node 1, 1017h = 1, so that a heartbeat joins at each tick.
 abbrev pub beating : List Call
 beating = missing ++ writes (bytes 0x2B 0x17 0x10 0x00 0x01 0x00 0 0)
 
--- then a tick: the heartbeat is the first of the line, and says the code
+-- then a tick: the heartbeat is the first in the line, and its byte is the code
 pub record Beats (cs : List Call) (code : ℕ) : Type 0 where
   pub is-first : IsFirst heartbeat (after node1 (cs ++ tick ∷ []))
   pub its-code : codeAfter 1 (cs ++ tick ∷ []) ≡ code
   pub sent : answer (after node1 (cs ++ tick ∷ [])) ≡ sends 0x701 1 (code ∷ [])
 
--- After the calls the slot sends a TPDO of this identifier, the position 100.
+-- After the calls the slot sends a TPDO with this identifier and the position 100.
 pub record Shows (cs : List Call) (w : PdoNumber) (identifier : ℕ) : Type 0 where
   pub is-first : IsFirst (tpdo w) (after node1 cs)
   pub sent : answer (after node1 cs) ≡ sends identifier 4 (100 ∷ [])
@@ -33,7 +33,7 @@ pub record CodesMet : Type 0 where
   pub operational : Beats (beating ++ command 0x01 ∷ []) 0x05
   pub stopped : Beats (beating ++ command 0x02 ∷ []) 0x04
   pub again : Beats (beating ++ command 0x02 ∷ command 0x80 ∷ []) 0x7F
-  -- the node has booted, and 81h is said to it
+  -- the node has booted, and gets the command 81h
   pub is-booted : isInitialising (after node1 beating .core) ≡ false
   pub is-said : says 1 0x81 (command 0x81) ≡ true
   -- 81h, and 01h has no effect in Initialising; 82h, and the boot-up frame is sent

@@ -42,6 +42,6 @@ pub record Met (h : Head) : Type 0 where
   pub read : dueTo h (toNode1 (bytes 0x40 0x01 0x65 0x00 0 0 0 0)) ≡ value 4 5000
   pub client-aborts : dueTo h (toNode1 (bytes 0x80 0x01 0x65 0x00 0 0 0 0)) ≡ service.none
 
--- `ServedRightly` speaks of every rw entry, of an abort, of a value and of none.
+-- `ServedRightly` covers every rw entry, an abort, a value, and no reply.
 abbrev pub MetWhenReady : Type 0
 MetWhenReady = Met (after node1 ready)

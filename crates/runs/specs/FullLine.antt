@@ -15,7 +15,7 @@ use Rattle.promises.specs.Histories.{after, slots, sent, Reachable}
 use Rattle.promises.specs.Node1.{node1, request, asks, writes, command, sync}
 use Rattle.promises.specs.Worked.{missing, at, inverted}
 
--- missing told, inverted, 1017h = 1; then the reading is good, Operational is entered and a SYNC comes
+-- missing is announced, inverted, 1017h = 1; then the reading is good, Operational is entered and a SYNC arrives
 abbrev pub begun : List Call
 begun = missing ++ inverted ++ writes (bytes 0x2B 0x17 0x10 0x00 0x01 0 0 0) ++ sample (Raw 69637) ∷ command 0x01 ∷ sync ∷ []
 
@@ -52,7 +52,7 @@ pub record FullLine : Type 0 where
   -- the heartbeat begins to wait behind four others
   pub before : Waits almost (emergency ∷ tpdo1 ∷ tpdo2 ∷ sdoReply ∷ [])
   pub begins : Waits full (emergency ∷ tpdo1 ∷ tpdo2 ∷ sdoReply ∷ heartbeat ∷ [])
-  -- and is the fifth that leaves; 1,048,575 − 69,637 is 978,938, 0E EFFAh
+  -- and leaves as the fifth; 1,048,575 − 69,637 is 978,938, 0E EFFAh
   pub five : slots flood ≡ 5
   pub leaves : sent full flood
       ≡ frame 0x081 8 (bytes 0 0 0 0 0 0 0 0)
@@ -64,7 +64,7 @@ pub record FullLine : Type 0 where
   -- the emergency and TPDO1 join in one call: the command that leaves Stopped
   pub several : Waits (after node1 (missing ++ command 0x02 ∷ sample (Raw 69637) ∷ [])) []
       × Waits (after node1 (missing ++ command 0x02 ∷ sample (Raw 69637) ∷ command 0x01 ∷ [])) (emergency ∷ tpdo1 ∷ [])
-  -- 81h, 82h; 02h; 80h; a missing sample, missing being announced last, and a good one after power-up
+  -- 81h, 82h; 02h; 80h; a missing sample when missing was announced last, and a good one after power-up
   pub resets : Takes full (command 0x81) [] × Takes full (command 0x82) []
   pub stops : Takes full (command 0x02) (heartbeat ∷ [])
   pub leaves-operational : Takes full (command 0x80) (emergency ∷ sdoReply ∷ heartbeat ∷ [])

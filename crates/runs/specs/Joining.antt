@@ -23,7 +23,7 @@ abbrev pub lines : Head → List Call → List (List ℕ)
 lines h [] = []
 lines h (c ∷ cs) = waiting (step h c .line) ∷ lines (step h c) cs
 
--- After the first calls, each of the next leaves these lines.
+-- After the first calls, the next calls leave these lines, one for each call.
 abbrev pub Leave : List Call → List Call → List (List ℕ) → Type 0
 Leave before cs ls = lines (after node1 before) cs ≡ ls
 
@@ -83,18 +83,18 @@ pub record Joining : Type 0 where
       ([] ∷ [] ∷ (heartbeat ∷ []) ∷ [] ∷ [] ∷ [] ∷ (heartbeat ∷ []) ∷ [])
   pub beats-sent-late : Leave (good ++ every3) (tick ∷ tick ∷ tick ∷ tick ∷ slot ∷ tick ∷ tick ∷ [])
       ([] ∷ [] ∷ (heartbeat ∷ []) ∷ (heartbeat ∷ []) ∷ [] ∷ [] ∷ (heartbeat ∷ []) ∷ [])
-  -- counted from its write, also of an equal value; a command does not begin anew
+  -- counted from its write, also of an equal value; a command does not restart the count
   pub beats-anew : Leave (good ++ every3 ++ tick ∷ tick ∷ every3) (tick ∷ tick ∷ tick ∷ []) ([] ∷ [] ∷ (heartbeat ∷ []) ∷ [])
   pub beats-on : Leave (good ++ every3) (tick ∷ command 0x02 ∷ tick ∷ command 0x80 ∷ tick ∷ []) ([] ∷ [] ∷ [] ∷ [] ∷ (heartbeat ∷ []) ∷ [])
   pub counted-beats : since beatsAnew beatCounts node1 (good ++ every3 ++ tick ∷ tick ∷ tick ∷ slot ∷ tick ∷ tick ∷ []) 0 ≡ 5
-  -- TPDO1, of type 254, joins on entering and every three ticks, in Operational only; from a write to sub 5 anew, by either index
+  -- TPDO1, of type 254, joins on entering and every three ticks, in Operational only; a write to sub 5, under either index, restarts the count
   pub elapses : Leave (good ++ event3) (command 0x01 ∷ slot ∷ tick ∷ tick ∷ tick ∷ slot ∷ tick ∷ tick ∷ tick ∷ [])
       ((tpdo1 ∷ []) ∷ [] ∷ [] ∷ [] ∷ (tpdo1 ∷ []) ∷ [] ∷ [] ∷ [] ∷ (tpdo1 ∷ []) ∷ [])
   pub enters-again : Leave (good ++ event3 ++ operating) (tick ∷ tick ∷ command 0x80 ∷ tick ∷ command 0x01 ∷ slot ∷ tick ∷ tick ∷ tick ∷ [])
       ([] ∷ [] ∷ [] ∷ [] ∷ (tpdo1 ∷ []) ∷ [] ∷ [] ∷ [] ∷ (tpdo1 ∷ []) ∷ [])
   pub elapses-anew : Leave (good ++ event3 ++ operating ++ tick ∷ tick ∷ event3Again) (tick ∷ tick ∷ tick ∷ [])
       ([] ∷ [] ∷ (tpdo1 ∷ []) ∷ [])
-  -- from switching on anew, by which it does not join, nor while it is off
+  -- switching on restarts the count; TPDO1 does not join then, nor while it is off
   pub elapses-switched : Leave (good ++ event3 ++ operating ++ tick ∷ off1) (tick ∷ tick ∷ on1 ++ tick ∷ tick ∷ tick ∷ [])
       ([] ∷ [] ∷ (sdoReply ∷ []) ∷ [] ∷ [] ∷ [] ∷ (tpdo1 ∷ []) ∷ [])
   -- with 1800-5 = 0 at no tick
@@ -103,7 +103,7 @@ pub record Joining : Type 0 where
   -- A due moment with a missing reading is passed over: the third tick; the sixth is the next.
   pub passed-over : Leave (good ++ event3 ++ operating) (tick ∷ tick ∷ sample Missing ∷ tick ∷ sample (Raw 7) ∷ tick ∷ tick ∷ tick ∷ [])
       ([] ∷ [] ∷ (emergency ∷ []) ∷ (emergency ∷ []) ∷ [] ∷ [] ∷ [] ∷ (tpdo1 ∷ []) ∷ [])
-  -- and so the second SYNC, the fourth is the next; and entry, from which three ticks are counted
+  -- the same for the second SYNC: the fourth is the next; and for entry, from which three ticks are counted
   pub sync-passed-over : Leave (good ++ second ++ operating) (sync ∷ sample Missing ∷ sync ∷ sample (Raw 7) ∷ sync ∷ sync ∷ [])
       ([] ∷ (emergency ∷ []) ∷ (emergency ∷ []) ∷ [] ∷ [] ∷ (tpdo2 ∷ []) ∷ [])
   pub due-and-missing : (n : Counts) → n .syncs two ≡ 1 → Due (after node1 lostBetween) n sync two
@@ -121,7 +121,7 @@ pub record Joining : Type 0 where
   -- TPDO2, of type 2, joins at the second SYNC and at the fourth, and at no tick
   pub syncs : Leave (good ++ second ++ operating) (sync ∷ sync ∷ slot ∷ tick ∷ sync ∷ sync ∷ [])
       ([] ∷ (tpdo2 ∷ []) ∷ [] ∷ [] ∷ [] ∷ (tpdo2 ∷ []) ∷ [])
-  -- counted from switching on, and from entry: a SYNC before is none of its SYNCs
+  -- counted from switching on, and from entry: an earlier SYNC does not count
   pub syncs-anew : Leave (good ++ second ++ operating ++ sync ∷ off2 ++ sync ∷ on2) (sync ∷ sync ∷ []) ([] ∷ (tpdo2 ∷ []) ∷ [])
   pub syncs-entered : Leave (good ++ second ++ operating ++ sync ∷ command 0x80 ∷ sync ∷ operating) (sync ∷ sync ∷ [])
       ([] ∷ (tpdo2 ∷ []) ∷ [])
@@ -129,6 +129,6 @@ pub record Joining : Type 0 where
   -- a request gets its reply, a client's abort none
   pub replies : Leave good (request (bytes 0x80 0x04 0x60 0x00 0 0 0 0) ∷ request (bytes 0x40 0x04 0x60 0x00 0 0 0 0) ∷ [])
       ([] ∷ (sdoReply ∷ []) ∷ [])
-  -- missing is told by the emergency, and good again; what is found before it is sent needs none
+  -- the emergency announces missing, and then good; a reading that returns before the emergency is sent needs none
   pub alerts : Leave good (sample Missing ∷ sample (Raw 7) ∷ sample Missing ∷ slot ∷ sample (Raw 7) ∷ [])
       ((emergency ∷ []) ∷ [] ∷ (emergency ∷ []) ∷ [] ∷ (emergency ∷ []) ∷ [])

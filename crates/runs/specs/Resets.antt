@@ -28,7 +28,7 @@ beating = missing ++ writes (bytes 0x2B 0x17 0x10 0x00 0xE8 0x03 0 0)
 abbrev pub between : List Call
 between = slot ∷ writes (bytes 0x2B 0x17 0x10 0x00 0xF4 0x01 0 0)
 
--- The head h can meet what `Restores` asks: f is an accepted write of v to the entry of key k, and after 81h 1017h reads n.
+-- The head h meets the conditions of `Restores`: f is an accepted write of v to the entry of key k, and after 81h 1017h reads n.
 pub record Met (h : Head) (f : Received) (k v n : ℕ) : Type 0 where
   pub reachable : Reachable h
   pub written : Writes h f k v

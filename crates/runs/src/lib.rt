@@ -11,7 +11,7 @@ ghost use Rattle.runs.specs.Resets.{MetByLoad, MetBySave, Restoring};
 ghost use Rattle.runs.specs.Service.{Serving};
 ghost use Rattle.runs.specs.Starts.{StartsMet};
 
-// It does nothing: what it ensures are the statements of the crate, so that the crate is proved only if they are.
+// This function does nothing. It ensures the statements of the crate, so the crate is proved only if they are.
 fn statements()
     ensures { λ _. ⌜
         FullLine × Busy × Joining × CodesMet × Serving × MetWhenReady × Positioning × Losing × MetBySave × MetByLoad

@@ -24,7 +24,7 @@ pub struct Sampled {
     pub line: Line,
 }
 
-// A raw position; one above 1,048,575 is refused and leaves all as it was.
+// A raw position; one above 1,048,575 is refused and changes nothing.
 pub fn raw(
     state: Nmt,
     emergency: u32,
@@ -57,7 +57,7 @@ pub fn raw(
     }
 }
 
-// The line once the reading is good. After a good one it stays.
+// The line once the reading is good. If it was good before, the line stays.
 fn found(
     state: Nmt,
     emergency: u32,

@@ -10,7 +10,7 @@ ghost use Rattle.sdo.specs.Worked.{Worked};
 pub mod reply;
 pub mod request;
 
-// It does nothing: what it ensures are the statements of the crate, so that the crate is proved only if they are.
+// This function does nothing. It ensures the statements of the crate, so the crate is proved only if they are.
 fn statements()
     ensures { λ _. ⌜ ((d : Device) (o : Bool) (f : List ℕ) → Laws d o f) × Worked ⌝ }
 {}

@@ -8,7 +8,7 @@ pub enum Effect {
     Write { key: u32, value: u32 },
 }
 
-// The bytes are 0 where there is no reply.
+// The bytes are 0 if there is no reply.
 pub struct Served {
     pub bytes: Bytes,
     pub effect: Effect,

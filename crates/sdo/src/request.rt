@@ -1,5 +1,5 @@
 //! The types of a request that is taken apart.
-// `length` is 0 where the request leaves it to the entry.
+// `length` is 0 if the request leaves it to the entry.
 pub enum Access {
     Read,
     Write { length: u8, content: u32 },

@@ -19,7 +19,7 @@ use waiting::EMPTY;
 use waiting::Line;
 use waiting::SDO_REPLY;
 
-// The reply waits, and nothing else changes: an emergency that may wait does already.
+// The reply waits, and nothing else changes: an emergency that may wait waits already.
 pub struct Replied {
     pub reply: Bytes,
     pub line: Line,
@@ -141,7 +141,7 @@ fn timers_written(key: u32, before: Communication, after: Communication, timers:
     }
 }
 
-// The line once the settings are these: who may no longer wait goes, the emergency may join, the reply joins.
+// The line under the new settings: kinds that may no longer wait go, the emergency may join, the reply joins.
 fn rewritten(
     line: Line,
     state: Nmt,

@@ -21,7 +21,7 @@ const NO_SUCH_INDEX: u32 = 0x0602_0000;
 
 const NO_SUCH_SUB_INDEX: u32 = 0x0609_0011;
 
-// The reply that is due to a request, and what the request does; a client's abort gets none and does nothing.
+// The reply due to a request, and what the request does; a client's abort gets no reply and does nothing.
 pub fn serve(device: Device, operational: bool, bytes: Bytes) -> Served
     requires { ⌜ ValidProfile (device .settings .profile) ⌝ }
     ensures { λ r. ⌜ r ≡ answer bytes (due device operational bytes) ⌝ }

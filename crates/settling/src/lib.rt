@@ -6,7 +6,7 @@ use parts::Nmt;
 use waiting::Flags;
 use waiting::Line;
 
-// Those whose moment it is join, if they may.
+// The kinds that are due join, if they may.
 pub fn joined(
     line: Line,
     state: Nmt,

@@ -22,7 +22,7 @@ use Rattle.nmt.specs.declared.Order.{Order}
 use Rattle.nmt.specs.Orders.{orderOf}
 use Rattle.steps.specs.declared.hear.Heard.{Heard}
 
--- a frame of this refusal goes this way, which asks for nothing
+-- a frame with this refusal number goes this way, which needs no further data
 abbrev pub passingBy : ℕ → ℕ → Heard
 passingBy refusal way = record { refusal = refusal; way = way; state = initialising; all = false; reply = pad 8 []; key = 0; value = 0 }
 

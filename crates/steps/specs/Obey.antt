@@ -55,7 +55,7 @@ savedIn h w =
 abbrev pub emptiedIn : Head → Heard → Head
 emptiedIn h w = let r = emptiedBy (h .line) (w .reply) in withLine (withReply (withErrors h (r .errors)) (r .reply)) (r .line)
 
--- by the way's number
+-- for each way's number
 abbrev pub obeyedIn : Head → Heard → ℕ → Head
 obeyedIn h w way =
     firstOf (

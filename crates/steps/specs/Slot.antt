@@ -26,7 +26,7 @@ use Rattle.steps.specs.declared.slot.Booted.{Booted}
 use Rattle.steps.specs.declared.slot.Slotted.{Slotted}
 use Rattle.steps.specs.declared.slot.Taken.{Taken}
 
--- the boot-up frame is sent, none, the emergency, another
+-- 1: the boot-up frame is sent; 0: none; 2: the emergency; 3: another kind
 abbrev pub slotWay : Nmt → ℕ → ℕ
 slotWay s k = cond (eqb (s .code) initialisingCode) 1 (cond (eqb k 0) 0 (cond (eqb k line.emergency) 2 3))
 
@@ -55,7 +55,7 @@ slottedOf node s settings r reply l =
       way = way;
     }
 
--- behind the boot-up frame nothing waits
+-- nothing else waits with the boot-up frame
 abbrev pub bootedOf : ℕ → Bool → Booted
 bootedOf identifier good =
     record { nmt = state preOperational; line = joinsIn (pad places []) (ifDue (on identifier && not good) line.emergency) }

@@ -14,14 +14,14 @@ use Rattle.counting.specs.Periods.{oneMore}
 use Rattle.tpdo.specs.Moments.{eventCount}
 use Rattle.steps.specs.declared.tick.Ticked.{Ticked}
 
--- somebody may join, or none
+-- 1: some kind may join; 0: none
 abbrev pub tickWay : Bool → ℕ
 tickWay settles = cond settles 1 0
 
 abbrev pub eventClock : Bool → Pdo → Clock → Clock
 eventClock counts p k = record { ticks = eventCount counts p (k .ticks) .count; syncs = k .syncs }
 
--- where timers run
+-- in the states in which timers run
 abbrev pub countedOn : Bool → Communication → Timers → Bool → Bool → Ticked
 countedOn counts k t good announced =
     let beats = oneMore (k .heartbeat) (t .heartbeat) in

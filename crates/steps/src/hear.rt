@@ -40,8 +40,8 @@ const SYNC: u32 = 0x080;
 
 const MOST_SYNC_LENGTH: u8 = 1;
 
-// What a frame means: the refusal's number, the way, and what the way asks for: the state that is entered, whether all settings are
-// reset, the reply that waits, the entry that is written and its value.
+// What a frame means: the refusal number, the way, and what the way needs: the state to enter, whether all settings are reset,
+// the reply that waits, the entry that is written and its value.
 pub struct Heard {
     pub refusal: u8,
     pub way: u8,

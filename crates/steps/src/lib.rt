@@ -8,10 +8,10 @@ pub mod hear;
 pub mod slot;
 pub mod tick;
 
-// No way: nothing more is altered.
+// No way: nothing more changes.
 pub const NONE: u8 = 0;
 
-// It does nothing: what it ensures are the statements of the crate, so that the crate is proved only if they are.
+// This function does nothing. It ensures the statements of the crate, so the crate is proved only if they are.
 fn statements()
     ensures { λ _. ⌜ Laws ⌝ }
 {}

@@ -20,14 +20,14 @@ use waiting::SDO_REPLY;
 use waiting::TPDO1;
 use waiting::TPDO2;
 
-// The ways of a slot: the boot-up frame is sent, the emergency, another.
+// The ways of a slot: it sends the boot-up frame, the emergency, or another kind.
 pub const BOOTS: u8 = 1;
 
 pub const ANNOUNCES: u8 = 2;
 
 pub const SENDS: u8 = 3;
 
-// The frame to send, if one waited; it is all 0 otherwise, and not to be sent.
+// The frame to send, if one waited. Otherwise it is all 0 and must not be sent.
 #[repr(C)]
 pub struct Outgoing {
     pub waited: bool,
@@ -117,7 +117,7 @@ pub struct Booted {
     pub line: Line,
 }
 
-// The slot that sends the boot-up frame enters Pre-operational. Behind it nothing waits, and an emergency may join.
+// The slot that sends the boot-up frame enters Pre-operational. Nothing else waits then, and an emergency may join.
 pub fn boot(emergency: u32, good: bool) -> Booted
     ensures { λ r. ⌜ r ≡ bootedOf emergency good ⌝ }
 {

@@ -7,7 +7,7 @@ use parts::Nmt;
 use parts::Timers;
 use waiting::Flags;
 
-// The way of a tick at which somebody may join.
+// The way of a tick at which some kind may join.
 pub const SETTLES: u8 = 1;
 
 pub struct Ticked {
@@ -16,7 +16,7 @@ pub struct Ticked {
     pub due: Flags,
 }
 
-// 1 ms went by. In Initialising timers stand. Most ticks are nobody's moment, and the reading is the one announced: the line stays.
+// 1 ms has passed. In Initialising timers stand. At most ticks no kind is due and the reading is the one announced: the line stays.
 pub fn tick(
     state: Nmt,
     settings: Communication,

@@ -19,7 +19,7 @@ pub data Digit (b d : ℕ) : Type 0 where
   capital : b ≡ 0x37 + d → 10 ≤ d → d ≤ 15 → Digit b d
   small : b ≡ 0x57 + d → 10 ≤ d → d ≤ 15 → Digit b d
 
--- so many digits of a base, the first the highest, and their number
+-- n digits of a base, highest digit first, and the number that they make
 pub data Number (base : ℕ) : ℕ → List ℕ → ℕ → Type 0 where
   none : Number base 0 [] 0
   more : {n v b d : ℕ} {w : List ℕ} → Number base n w v → Digit b d → d < base → Number base (suc n) (w ++ b ∷ []) (v * base + d)
@@ -34,7 +34,7 @@ abbrev pub parted : List (List ℕ) → List ℕ
 parted [] = []
 parted (w ∷ ws) = w ++ behind ws
 
--- so many hex pairs, and their bytes
+-- n hex pairs, and their bytes
 pub data Pairs : ℕ → List (List ℕ) → List ℕ → Type 0 where
   none : Pairs 0 [] []
   more : {n b : ℕ} {w bs : List ℕ} {ws : List (List ℕ)} → Number 16 2 w b → Pairs n ws bs → Pairs (suc n) (w ∷ ws) (b ∷ bs)

@@ -16,12 +16,12 @@ use Rattle.text.specs.declared.Command.the-variants.{Malformed, Frame, T
 use Rattle.text.specs.declared.Parsed.{Parsed}
 use Rattle.text.specs.declared.Line.{Line}
 
--- fields parted by one space: one more than there are spaces, an empty one where two spaces meet
+-- fields parted by one space: one more field than spaces; between two spaces in a row the field is empty
 abbrev pub fields : List ℕ → List (List ℕ)
 fields [] = [] ∷ []
 fields (x ∷ xs) = cond (eqb x (code " ")) ([] ∷ fields xs) (onto x (fields xs))
 
--- hex digits of either case; 16 is no digit, of no base
+-- hex digits of either case; 16 stands for a byte that is no digit, in any base
 abbrev pub digitOf : ℕ → ℕ
 digitOf b =
     firstOf
@@ -45,7 +45,7 @@ digits base (x ∷ xs) = ltb (digitOf x) base && digits base xs
 abbrev pub isNumber : ℕ → ℕ → List ℕ → Bool
 isNumber base most w = digits base w && within 1 most (length w)
 
--- the number in these digits, the first the highest, behind digits whose number is v
+-- the number in these digits, highest digit first, after digits whose number is v
 abbrev pub valueFrom : ℕ → ℕ → List ℕ → ℕ
 valueFrom base v [] = v
 valueFrom base v (x ∷ xs) = valueFrom base (v * base + digitOf x) xs
@@ -110,7 +110,7 @@ abbrev pub slotOf : List (List ℕ) → Parsed
 slotOf [] = only Slot
 slotOf (more ∷ fs) = malformed
 
--- the first field is the key, and says of which form the line is
+-- the first field is the key, and says which form the line has
 abbrev pub command : List (List ℕ) → Parsed
 command [] = malformed
 command (key ∷ fs) =
@@ -129,6 +129,6 @@ parsed l = command (fields l)
 abbrev pub says : List ℕ → Parsed
 says l = cond (ltb longest (length l)) malformed (parsed l)
 
--- the same of a line that was gathered byte by byte
+-- the same for a line that was gathered byte by byte
 abbrev pub saysLine : Line → Parsed
 saysLine r = cond (r .long) malformed (parsed (held r))

@@ -23,10 +23,10 @@ Within Missing = Unit {0}
 Within Slot = Unit {0}
 
 pub record Laws : Type 0 where
-  -- whoever takes byte after byte hands on exactly the lines of the input
+  -- a reader that takes byte after byte passes on exactly the lines of the input
   pub handed-lines : (bs : List ℕ) → handed blank bs ≡ map lineOf (lines bs)
   pub push-line : (l : List ℕ) (b : ℕ) → pushed (lineOf l) b ≡ lineOf (l ++ b ∷ [])
-  -- lines of at most 64 bytes are kept whole
+  -- lines of at most 64 bytes are kept complete
   pub held-line : (l : List ℕ) → length l ≤ 64 → held (lineOf l) ≡ l
   -- and so is all that is printed
   pub held-frame : (f : Sent) → length (f .bytes) ≡ 8 → held (lineOf (frameText f)) ≡ frameText f

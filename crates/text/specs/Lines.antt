@@ -26,7 +26,7 @@ atMost most n = cond (ltb n most) n most
 abbrev pub longest : ℕ
 longest = 64
 
--- what is kept of a line: its first 64 bytes, how many they are, and whether it is longer
+-- what is kept of a line: its first 64 bytes, their number, and whether the line is longer
 unfoldable pub lineOf : List ℕ → Line
 lineOf l =
     record {
@@ -49,7 +49,7 @@ pushed r b =
     (record { bytes = set (r .bytes) (r .len) b; len = r .len + 1; long = r .long })
     (record { bytes = r .bytes; len = r .len; long = true })
 
--- the lines that a reader hands on, who takes byte after byte and has gathered r
+-- the lines that a reader passes on, when it takes byte after byte and has gathered r
 abbrev pub handed : Line → List ℕ → List Line
 handed r [] = cond (eqb (r .len) 0) [] (r ∷ [])
 handed r (b ∷ bs) = cond (eqb b (code "\n")) (r ∷ handed blank bs) (handed (pushed r b) bs)

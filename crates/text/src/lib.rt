@@ -25,13 +25,13 @@ pub enum Command {
     Slot,
 }
 
-// An enum can hold no array, so the bytes of a frame stand beside it; 0 beyond them.
+// An enum cannot hold an array, so the bytes of a frame stand beside it; unused ones are 0.
 pub struct Parsed {
     pub command: Command,
     pub bytes: Bytes,
 }
 
-// It does nothing: what it ensures are the statements of the crate, so that the crate is proved only if they are.
+// This function does nothing. It ensures the statements of the crate, so the crate is proved only if they are.
 fn statements()
     ensures { λ _. ⌜ Forms × Laws × Worked ⌝ }
 {}

@@ -19,7 +19,7 @@ use position::Profile;
 
 pub mod sync;
 
-// Types 1 to 240 are sent at each so-many-th SYNC, types 254 and 255 by events.
+// Types n = 1 to 240 are sent at each n-th SYNC, types 254 and 255 by events.
 const MOST_SYNCS: u32 = 240;
 
 const LENGTH: u8 = 4;
@@ -42,7 +42,7 @@ pub fn uncounted() -> Clock
     Clock { ticks: 0, syncs: 0 }
 }
 
-// The event timer after a tick, and whether it is the PDO's moment. It counts in Operational only.
+// The event timer after a tick, and whether the PDO is due. It counts in Operational only.
 pub fn ticked(operational: bool, pdo: Pdo, ticks: u32) -> Count
     ensures { λ r. ⌜ r ≡ eventCount operational pdo ticks ⌝ }
 {
@@ -59,7 +59,7 @@ pub fn ticked(operational: bool, pdo: Pdo, ticks: u32) -> Count
     }
 }
 
-// The SYNCs after one more in Operational, and whether it is the PDO's moment.
+// The count of SYNCs after one more in Operational, and whether the PDO is due.
 pub fn synced(pdo: Pdo, syncs: u32) -> Count
     ensures { λ r. ⌜ r ≡ syncCount pdo syncs ⌝ }
 {
@@ -72,7 +72,7 @@ pub fn synced(pdo: Pdo, syncs: u32) -> Count
     }
 }
 
-// After a write that may have switched the PDO on; `event`: it was one to its sub 5.
+// The clock after a write that may have switched the PDO on; `event`: the write was to its sub 5.
 pub fn written(event: bool, before: Pdo, after: Pdo, clock: Clock) -> Clock
     ensures { λ r. ⌜ r ≡ clockWritten event before after clock ⌝ }
 {

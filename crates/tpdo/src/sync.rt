@@ -16,7 +16,7 @@ pub struct Synced {
     pub line: Line,
 }
 
-// A SYNC in Operational. An emergency that may wait does already.
+// A SYNC in Operational. An emergency that may wait waits already.
 pub fn sync(state: Nmt, settings: Communication, timers: Timers, good: bool, line: Line) -> Synced
     ensures { λ r. ⌜ r ≡ syncedBy state settings timers good line ⌝ }
 {

@@ -21,15 +21,15 @@ use Rattle.transcript.specs.Commands.{Outcome, obeyed}
 abbrev pub replyOf : Outcome → Reply
 replyOf o = record { head = o .head; text = lineOf (o .text) }
 
--- what a line does that was gathered byte by byte
+-- what a line does once it is gathered byte by byte
 unfoldable pub answered : Head → Line → Reply
 answered h r = replyOf (obeyed h (saysLine r .bytes) (saysLine r .command))
 
--- a head, and what has come of a line
+-- a head, and what has arrived of a line
 abbrev pub session : Head → Line → Session
 session h r = record { head = h; line = r }
 
--- no byte has come of the first line
+-- no byte of the first line has arrived
 abbrev pub started : Session
 started = session node1 blank
 
@@ -38,7 +38,7 @@ abbrev pub stepped : Session → ℕ → Session
 stepped s b =
     cond (eqb b (code "\n")) (session (answered (s .head) (s .line) .head) blank) (session (s .head) (pushed (s .line) b))
 
--- what it prints: the line that it ends is answered
+-- what it prints: the answer to the line that it ends
 abbrev pub spoken : Session → ℕ → Line
 spoken s b = cond (eqb b (code "\n")) (answered (s .head) (s .line) .text) blank
 
@@ -57,11 +57,11 @@ prints s (b ∷ bs) = held (fed s b .text) ++ prints (fed s b .session) bs
 abbrev pub chunked : Session → List ℕ → Done
 chunked s bs = record { session = after s bs; len = length (prints s bs) }
 
--- a buffer with a text put behind its first `at` bytes; the others stay
+-- a buffer with a text written after its first `at` bytes; the other bytes stay
 abbrev pub placed : List ℕ → ℕ → List ℕ → List ℕ
 placed old at text = take at old ++ text ++ drop (at + length text) old
 
--- such a text of one line: where it ends, and the buffer
+-- the same for the text of one line: where it ends, and the buffer
 pub record Put (old : List ℕ) (at : ℕ) (text new : List ℕ) (end : ℕ) : Type 0 where
   pub ends : end ≡ at + length text
   pub few : length text ≤ longest

@@ -51,7 +51,7 @@ ticks (suc n) h = step (ticks n h) tick
 abbrev pub called : Head → Call → Answer
 called h c = answered (refusalBy c) (step h c)
 
--- The bytes are those of the frame, and of no use to another command.
+-- The bytes are those of the frame; other commands do not use them.
 abbrev pub obeyed : Head → List ℕ → Command → Outcome
 -- 9: a line not of its form: prints E 9; head unchanged
 obeyed h bytes Malformed = refused 9 h

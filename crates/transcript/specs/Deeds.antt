@@ -21,7 +21,7 @@ use Rattle.text.specs.declared.Command.the-variants.{Frame, Ticks, Sample}
 use Rattle.transcript.specs.Talk.{reply, talk, transcript}
 use Rattle.transcript.specs.Bytes.{started, after as afterBytes}
 
--- a line makes these calls, one after the other, and prints these bytes
+-- a line makes these calls, one after another, and prints these bytes
 pub record Does (h : Head) (l : List ℕ) (calls : List Call) (text : List ℕ) : Type 0 where
   pub head : reply h l .head ≡ after h calls
   pub prints : reply h l .text ≡ text
@@ -70,6 +70,6 @@ pub record Deeds : Type 0 where
   pub nothing : (h : Head) → talk h [] ≡ []
   -- node 1, identity 1, 2, 3, 4, standard input to output
   pub begins : (input : List ℕ) → transcript input ≡ talk first (lines input)
-  -- and so do the calls that take the input byte by byte: the head is always that after calls from power-up
+  -- and so do the calls that take the input byte by byte: the head always comes from power-up and calls
   pub begins-bytes : started .head ≡ first
   pub called : (input : List ℕ) → Called (afterBytes started input .head)

@@ -16,12 +16,12 @@ use Rattle.transcript.specs.Talk.{reply, talk, transcript}
 use Rattle.transcript.specs.Bytes.{replyOf, answered, session, started, fed, after, prints, closing}
 
 pub record Laws : Type 0 where
-  -- what the bytes of an input print, one after the other, and its end: each line of the input in turn
+  -- the bytes of an input, one after another, and its end print what its lines print in turn
   pub whole : (h : Head) (input : List ℕ)
       → prints (session h blank) input ++ held (closing (after (session h blank) input)) ≡ talk h (lines input)
-  -- and so of the program
+  -- and so does the program
   pub program : (input : List ℕ) → prints started input ++ held (closing (after started input)) ≡ transcript input
-  -- a gathered line is answered as the line is
+  -- a gathered line gets the answer of the line
   pub line-answered : (h : Head) (l : List ℕ) → answered h (lineOf l) ≡ replyOf (reply h l)
   -- An input may be cut into chunks anywhere.
   pub cut : (s : Session) (a b : List ℕ) → after s (a ++ b) ≡ after (after s a) b

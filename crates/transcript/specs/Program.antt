@@ -18,7 +18,7 @@ use Rattle.transcript.specs.Promised.{Starts, Answers, Feeds, Chunks, Cl
 abbrev pub bytesOf : Line → List ℕ
 bytesOf r = take (r .len) (r .bytes)
 
--- calls that hand on an input and print a text: the session before, and the session after them
+-- calls that pass on an input and print a text: the session before them, and the session after them
 pub data Run : Session → List ℕ → List ℕ → Session → Type 0 where
   none : {s : Session} → Run s [] [] s
   byte : {s t : Session} {b : ℕ} {bs text : List ℕ} (r : Fed) → Feeds s b r → Run (r .session) bs text t

@@ -8,7 +8,7 @@ use Rattle.text.specs.Lines.{lines}
 use Rattle.text.specs.Grammar.{says}
 use Rattle.transcript.specs.Commands.{Outcome, obeyed}
 
--- What a line does and prints: what it says is obeyed. Of more than 64 bytes it says nothing that is of its form.
+-- What a line does and prints: the head obeys what the line says. A line of more than 64 bytes is not of its form.
 abbrev pub reply : Head → List ℕ → Outcome
 reply h l = obeyed h (says l .bytes) (says l .command)
 

@@ -24,11 +24,11 @@ pub record Worked : Type 0 where
       )
       ≡ ascii "701 1 00\n081 8 00 50 01 00 00 00 00 00\n581 8 43 18 10 01 01 00 00 00\n581 8 43 18 10 02 02 00 00 00\n"
       ++ ascii "581 8 43 18 10 03 03 00 00 00\n581 8 43 18 10 04 04 00 00 00\n"
-  -- each refusal that a line can be given, and a last line that the end of the input ends
+  -- each refusal that a line can get, and a last line that ends with the input
   pub refusals :
       transcript (ascii "F 800 9 00 00 00 00 00 00 00 00\nF 601 9 00 00 00 00 00 00 00 00\nS 4294967296\nS 1048576\n\nT 0\nT 1\n?")
       ≡ ascii "E 1\nE 2\nE 3\nE 3\nE 9\nE 9\n701 1 00\n"
-  -- lines not of their form leave the head: the boot-up frame still waits
+  -- lines not of their form leave the head unchanged: the boot-up frame still waits
   pub malformed :
       transcript (ascii "? \n ?\n??\nt 1\nT  1\nT 1001\nT 0x1\nT A\nS\nS -1\nS 12345678901\nF 601\nF 000000601 0\nF 601 1\nF 601 1 1\nE 9\n?")
       ≡ ascii "E 9\nE 9\nE 9\nE 9\nE 9\nE 9\nE 9\nE 9\nE 9\nE 9\nE 9\nE 9\nE 9\nE 9\nE 9\nE 9\n701 1 00\n"

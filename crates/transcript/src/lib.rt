@@ -13,7 +13,7 @@ pub struct Reply {
     pub text: Line,
 }
 
-// A head, and what has come of a line.
+// A head, and what has arrived of a line.
 pub struct Session {
     pub head: Head,
     pub line: Line,
@@ -31,7 +31,7 @@ pub struct Done {
     pub len: usize,
 }
 
-// It does nothing: what it ensures are the statements of the crate, so that the crate is proved only if they are.
+// This function does nothing. It ensures the statements of the crate, so the crate is proved only if they are.
 fn statements()
     ensures { λ _. ⌜ Deeds × Laws × Program × Worked ⌝ }
 {}

@@ -58,7 +58,7 @@ pub fn read(device: Device, operational: bool, place: usize) -> Shown
     }
 }
 
-// Of 1800h to 1A01h.
+// The entries 1800h to 1A01h.
 fn read_pdo(device: Device, operational: bool, place: usize) -> Shown
     requires { ⌜ (20 ≤ place) × (place < length table) × (ValidProfile (device .settings .profile)) ⌝ }
     ensures { λ r. ⌜ r ≡ shownAt device operational place ⌝ }
@@ -81,7 +81,7 @@ fn read_pdo(device: Device, operational: bool, place: usize) -> Shown
     }
 }
 
-// Of 6000h to 6509h.
+// The entries 6000h to 6509h.
 fn read_profile(device: Device, operational: bool, place: usize) -> Shown
     requires { ⌜ (32 ≤ place) × (place < length table) × (ValidProfile (device .settings .profile)) ⌝ }
     ensures { λ r. ⌜ r ≡ shownAt device operational place ⌝ }

@@ -94,7 +94,7 @@ pub fn withdraw(line: Line, kind: u8) -> Line
     behind(line[0], left, kind)
 }
 
-// The others behind one, unless it is of the kind that goes.
+// The places `others` with `one` in front, unless `one` is the kind that goes.
 fn behind(one: u8, others: Line, kind: u8) -> Line
     ensures { λ r. ⌜ r ≡ cond (eqb one kind) others (one ∷ take 4 others) ⌝ }
 {
@@ -104,7 +104,7 @@ fn behind(one: u8, others: Line, kind: u8) -> Line
     [one, others[0], others[1], others[2], others[3]]
 }
 
-// The kind that a slot sends, 0 where none waits.
+// The kind that a slot sends, 0 if none waits.
 pub fn first(line: Line) -> u8
     ensures { λ r. ⌜ r ≡ firstOf line ⌝ }
 {
@@ -155,7 +155,7 @@ pub fn withdraw_those(line: Line, goes: Flags) -> Line
     withdraw_if(left, goes[4], TPDO2)
 }
 
-// It does nothing: what it ensures are the statements of the crate, so that the crate is proved only if they are.
+// This function does nothing. It ensures the statements of the crate, so the crate is proved only if they are.
 fn statements()
     ensures { λ r. ⌜ Lines × ((n : ℕ) → Laws n) × InTurn × ((n : ℕ) → BySlotN n) × Example × Worked ⌝ }
 {}
