@@ -1,4 +1,4 @@
--- Laws about a choice by a test. Assumes nothing.
+-- Laws about a choice by tests. Assumes nothing.
 use mathlib.Core.Path.{_≡_, refl, sym, subst}
 use mathlib.Core.Bool.{Bool, true, false, _&&_, _||_, cond}
 use mathlib.Core.List.{List, [], _∷_}

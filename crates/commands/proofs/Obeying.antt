@@ -1,4 +1,4 @@
--- What each way out of `obey` says.
+-- Laws for each return of `obey`.
 use Prim.Native.Nat.{ℕ}
 use mathlib.Core.Path.{_≡_, _∙_}
 use mathlib.Core.List.{List}

@@ -1,4 +1,4 @@
--- A sample that 32 bits cannot hold.
+-- Laws for a sample that does not fit 32 bits.
 use Prim.Native.Nat.{ℕ, _<_}
 use mathlib.Core.Path.{_≡_}
 use native.Mathlib.Omega.{arith}

@@ -1,4 +1,4 @@
--- What the loop of `commands::tick` says.
+-- Laws for the loop of `commands::tick`.
 use Prim.Native.Nat.{ℕ, _+_, _≤_, _<_}
 use mathlib.Core.Path.{_≡_, refl, _∙_}
 use native.Mathlib.Numerals.{add-one}

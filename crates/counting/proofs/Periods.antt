@@ -1,4 +1,4 @@
--- One more of a period, by where its count stands.
+-- Laws for one step in counting a period, by where the count stands.
 use Prim.Native.Nat.{ℕ, suc, _+_, _<_, _≤_}
 use mathlib.Core.Path.{_≡_}
 use mathlib.Core.Bool.{true, false}

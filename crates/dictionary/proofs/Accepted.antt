@@ -1,5 +1,5 @@
--- The value's abort code comes before the state's, and a write that has neither is accepted and not barred. By the cases of the
--- tests. Assumes nothing.
+-- The value's abort code comes before the state's; a write with neither code is
+-- accepted and allowed by the state. By cases of the tests. Assumes nothing.
 use Prim.Native.Nat.{ℕ}
 use native.Mathlib.Omega.{arith}
 use mathlib.Core.Path.{_≡_, refl, _∙_}

@@ -1,4 +1,5 @@
--- `AcceptedLaws` of specs/AcceptedLaws: each line by the row that is found for it; the codes by the cases of the tests. Assumes nothing.
+-- Proves `AcceptedLaws` of specs/AcceptedLaws.antt: each line by the row
+-- that is found for it, the codes by cases of the tests. Assumes nothing.
 use Prim.Native.Nat.{ℕ, _+_, _/_, _%_, _≤_, _<_}
 use native.Mathlib.Omega.{arith}
 use mathlib.Core.Path.{_≡_, refl}

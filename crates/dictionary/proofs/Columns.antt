@@ -1,4 +1,4 @@
--- The columns of the table at a place. By the laws of lists. Assumes nothing.
+-- The columns of the table at a place, by the laws of lists. Assumes nothing.
 use Prim.Native.Nat.{ℕ}
 use mathlib.Core.Path.{_≡_, sym, _∙_, ap}
 use mathlib.Core.List.{List, map}

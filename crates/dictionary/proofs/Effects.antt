@@ -1,5 +1,5 @@
--- `EffectLaws` of specs/Effects.antt: what entries read after an accepted write. For each rw entry the whole table at once, by computation;
--- the position after 6003h by the laws of presets.
+-- Proves `EffectLaws` of specs/Effects.antt: what entries read after an accepted write. For each rw
+-- entry the whole table at once, by computation; the position after 6003h by the laws of presets.
 use Prim.Native.Nat.{ℕ}
 use lib.Dec.{ltb}
 use lib.IntN.{pos, _-ℤ_}

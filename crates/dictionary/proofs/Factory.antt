@@ -1,4 +1,4 @@
--- The factory settings are valid: their numbers lie between the bounds. Assumes nothing.
+-- The factory settings are valid: their numbers are within the bounds. Assumes nothing.
 use Prim.Native.Nat.{ℕ, _+_, _/_, _%_, _≤_}
 use native.Mathlib.Omega.{arith}
 use native.Mathlib.Nat.{mod-eq-of-lt, div-eq-of-lt}

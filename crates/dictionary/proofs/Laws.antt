@@ -1,4 +1,4 @@
--- The laws of specs/Laws, collected; the second index by computation. Assumes nothing.
+-- Proves the laws of specs/Laws.antt from the other files; the second index by computation. Assumes nothing.
 use Prim.Native.Nat.{ℕ}
 use lib.ListN.{getD, List·getD-map}
 use mathlib.Core.Path.{_≡_, refl, sym, _∙_, ap}

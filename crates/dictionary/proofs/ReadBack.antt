@@ -1,5 +1,4 @@
--- What a write leaves is what its entry then reads: for the whole table by computation; 1003-0 accepts only 0, which it reads.
--- Assumes nothing.
+-- An entry reads what was written to it: for the whole table by computation. 1003-0 accepts only 0, and then reads 0. Assumes nothing.
 use Prim.Native.Nat.{ℕ}
 use mathlib.Core.Path.{_≡_, refl, sym, _∙_, ap}
 use mathlib.Core.Bool.{Bool, true, cond}

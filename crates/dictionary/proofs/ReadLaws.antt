@@ -1,4 +1,4 @@
--- `ReadLaws` of specs/ReadLaws: each by the entry that is found. Assumes nothing.
+-- Proves `ReadLaws` of specs/ReadLaws.antt: each law by the entry that is found. Assumes nothing.
 use Prim.Native.Nat.{ℕ, zero, suc, _-_, _≤_, _<_}
 use native.Mathlib.Nat.{add-zero}
 use native.Mathlib.Omega.{arith}

@@ -1,4 +1,4 @@
--- A test that passes exactly when a fact holds, joined as tests are joined; facts of a list, line by line. Assumes nothing.
+-- Tests that pass exactly when a fact holds, and how to combine them; facts about a list, line by line. Assumes nothing.
 use Prim.Native.Nat.{ℕ, _≤_, _<_}
 use mathlib.Core.Path.{_≡_, refl, sym, _∙_}
 use mathlib.Core.Logic.{_↔_, _⊎_, inl, inr}

@@ -1,5 +1,5 @@
--- What holds of each element of a list that passes a test, holds of the element at a place, where it passes. By induction on the
--- list. Assumes nothing.
+-- A property of each element of a list that passes a test is a property of the
+-- element at a place, if that one passes. By induction on the list. Assumes nothing.
 use Prim.Native.Nat.{ℕ, zero, suc, _<_}
 use native.Mathlib.Omega.{arith}
 use mathlib.Core.Path.{_≡_, sym}

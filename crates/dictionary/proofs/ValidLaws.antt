@@ -1,4 +1,4 @@
--- `ValidLaws` of specs/ValidLaws: by what the tests mean. Assumes nothing.
+-- Proves `ValidLaws` of specs/ValidLaws.antt, by what the tests mean. Assumes nothing.
 use Prim.Native.Nat.{ℕ, _≤_}
 use native.Mathlib.Omega.{arith}
 use mathlib.Core.Path.{_≡_}

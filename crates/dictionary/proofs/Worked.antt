@@ -1,4 +1,5 @@
--- 01's own numbers, by computation; that `ready` is valid, by the laws of the factory settings and of accepted writes. Assumes nothing.
+-- Proves the examples of specs/Worked.antt by computation; that `ready` is valid,
+-- by the laws of the factory settings and of accepted writes. Assumes nothing.
 use Prim.Native.Nat.{ℕ}
 use native.Mathlib.Omega.{arith}
 use mathlib.Core.Path.{_≡_, refl}

@@ -1,4 +1,4 @@
--- `WriteLaws` of specs/WriteLaws: a choice by keys is what the lists there say; the offset by subtraction. Assumes nothing.
+-- Proves `WriteLaws` of specs/WriteLaws.antt: a choice by keys is what the lists there say; the offset by subtraction. Assumes nothing.
 use Prim.Native.Nat.{ℕ}
 use native.Mathlib.Omega.{arith}
 use mathlib.Core.Path.{_≡_, refl, sym, _∙_}

@@ -1,5 +1,5 @@
--- What the default of a `match` on a number knows: the number is none of the keys, the last arm's first. By induction on the
--- keys. Assumes nothing.
+-- What the default arm of a `match` on a number knows: the number is none of
+-- the keys (last arm's key first). By induction on the keys. Assumes nothing.
 use Prim.Native.Nat.{ℕ, zero, suc, _+_, _≤_}
 use native.Mathlib.Omega.{arith}
 use mathlib.Core.Path.{_≡_}

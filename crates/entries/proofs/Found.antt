@@ -1,5 +1,4 @@
--- What `lookup` finds: by induction on any list of rows; that it finds each row of the table where it stands, by computation.
--- Assumes nothing.
+-- What `lookup` finds, by induction on any list of rows; that it finds each row of the table at its place, by computation. Assumes nothing.
 use Prim.Native.Nat.{ℕ, zero, suc, _+_, _<_}
 use native.Mathlib.Omega.{arith}
 use native.Mathlib.Nat.{zero-add}

@@ -1,4 +1,5 @@
--- The laws of specs/Laws, collected; the columns of the table and the order of the keys by computation. Assumes nothing.
+-- Proves the laws of specs/Laws.antt from the other files; the columns of
+-- the table and the order of the keys by computation. Assumes nothing.
 use mathlib.Core.Path.{_≡_, refl}
 use mathlib.Core.Bool.{true}
 use mathlib.Core.List.{map}

@@ -1,4 +1,4 @@
--- How many rows the table has. By computation. Assumes nothing.
+-- The number of rows in the table, by computation. Assumes nothing.
 use mathlib.Core.Path.{_≡_, refl}
 use lib.ListN.{length}
 use Rattle.entries.specs.Table.{entries, table}

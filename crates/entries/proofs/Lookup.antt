@@ -1,4 +1,4 @@
--- `lookupFrom` by the index: among the sub-indices that an index has, and for one that no row has. By induction. Assumes nothing.
+-- `lookupFrom` for an index with its sub-indices, and for an index that no row has. By induction. Assumes nothing.
 use mathlib.Core.Path.{_≡_, refl, sym, _∙_}
 use mathlib.Core.Bool.{Bool, true, false, _||_, _&&_, cond}
 use mathlib.Core.List.{List, [], _∷_}

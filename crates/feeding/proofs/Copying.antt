@@ -1,4 +1,4 @@
--- What the loop of `put` says.
+-- Laws for the loop of `put`.
 use Prim.Native.Nat.{ℕ, _+_, _≤_, _<_}
 use mathlib.Core.Path.{_≡_, refl, _∙_}
 use mathlib.Core.List.{List}

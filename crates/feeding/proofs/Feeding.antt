@@ -1,4 +1,4 @@
--- What the loop of `chunk` says.
+-- Laws for the loop of `chunk`.
 use Prim.Native.Nat.{ℕ, _+_, _*_, _≤_, _<_}
 use mathlib.Core.Path.{_≡_, refl, sym, ap, _∙_}
 use mathlib.Core.List.{List, _++_, append-assoc, append-nil}

@@ -1,4 +1,4 @@
--- What each way out of `answer`, `feed` and `close` says.
+-- Laws for each return of `answer`, `feed` and `close`.
 use Prim.Native.Nat.{ℕ}
 use Prim.Native.Char.{code}
 use mathlib.Core.Path.{_≡_, _∙_}

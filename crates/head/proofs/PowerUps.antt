@@ -1,4 +1,4 @@
--- What power-up answers, by whether the node number is refused; and the head that it leaves is valid.
+-- What power-up answers, for a node number that is refused and for one that is not; the head that it leaves is valid.
 use Prim.Native.Nat.{ℕ}
 use mathlib.Core.Path.{_≡_, refl}
 use mathlib.Core.Bool.{true, false}

@@ -1,4 +1,4 @@
--- The head with the parts of a slot's way is what `promises` says: way by way.
+-- For each way of a slot, the head with the new parts is what `promises` says.
 use lib.Dec.{eqb}
 use borrow.Author.Tests.{eqb-true}
 use Rattle.cases.proofs.Cases.{by}

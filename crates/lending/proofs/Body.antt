@@ -1,5 +1,5 @@
--- The body of a function that is lent a struct: calls, stores into the struct, and a `match` whose arms are such bodies. Its code, its
--- locals, and what is to be shown of it.
+-- The body of a function that borrows a struct: calls, stores into the struct, and a `match`
+-- whose arms are such bodies. Its code, its locals, and what has to be proved about it.
 -- Assumes nothing.
 use mathlib.Core.Path.{_≡_, refl}
 use mathlib.Core.Bool.{Bool, true, false}

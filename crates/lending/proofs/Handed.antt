@@ -1,5 +1,5 @@
--- What a call within a lent function is handed: parts of the lent struct, each read into a local of its own, and parts of known locals.
--- Their count is free.
+-- The arguments of a call within a lent function: parts of the lent struct, each read
+-- into a local of its own, and parts of known locals. There can be any number of them.
 -- Assumes nothing.
 use mathlib.Core.Path.{_≡_, refl, sym, subst}
 use Prim.Native.Nat.{ℕ, zero, suc}

@@ -1,6 +1,6 @@
--- The law for functions that are lent a plain struct by `&mut`:
+-- The law for functions that borrow a plain struct by `&mut`:
 -- fn f(head: &mut R, p: P, ..) -> F { let t = k(head.a, .., p, ..); head.b = t.c; ..; match t.way { N => { .. } .. _ => {} } t.answer }
--- for any struct, any steps, any parts read and stored, and any arms, which are such blocks again (`Body.antt`), without an answer.
+-- for any struct, any steps, any parts read and stored, and any arms, which are again such blocks (`Body.antt`) but have no answer.
 -- Assumes nothing.
 use mathlib.Core.Path.{_≡_, refl, sym}
 use mathlib.Core.Option.{some as just}

@@ -1,4 +1,4 @@
--- The walk of a block (`Body.antt`) over the cell of the lent struct.
+-- The walk through a block (`Body.antt`) over the cell of the lent struct.
 -- Assumes nothing.
 use mathlib.Core.Path.{_≡_, refl, ap, subst}
 use mathlib.Core.Option.{Option, none, some}

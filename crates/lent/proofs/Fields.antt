@@ -1,4 +1,4 @@
--- The fields of a head and of what it is made of.
+-- The fields of a head and of its parts.
 use mathlib.Core.Path.{refl}
 use mathlib.Core.List.{map}
 use mir.Syntax.{w8, w32}

@@ -1,4 +1,4 @@
--- The answers to a host's questions, by the tests that the code makes.
+-- The answers to a host's questions, by the tests in the code.
 use Prim.Native.Nat.{ℕ}
 use mathlib.Core.Path.{_≡_, ap}
 use lib.Dec.{eqb}

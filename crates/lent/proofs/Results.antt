@@ -1,4 +1,4 @@
--- The fields of what the steps give back.
+-- The fields of the results of the steps.
 use mathlib.Core.Path.{refl}
 use mathlib.Core.List.{map}
 use mir.Syntax.{w8, w32}

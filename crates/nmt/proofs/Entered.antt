@@ -1,4 +1,4 @@
--- The head with what entering a state leaves is the one that `promises` says; so is the head with what a reset leaves.
+-- The head after entering a state, and the head after a reset, are what `promises` says.
 use Prim.Native.Nat.{ℕ, zero, suc, _<_, _≤_}
 use native.Mathlib.Omega.{arith}
 use lib.Dec.{eqb}

@@ -1,4 +1,4 @@
--- What a command orders, by the tests that the code makes.
+-- What a command orders, by the tests in the code.
 use Prim.Native.Nat.{ℕ}
 use lib.Dec.{eqb}
 use mathlib.Core.Path.{_≡_}

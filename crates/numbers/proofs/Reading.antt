@@ -1,4 +1,4 @@
--- What the loop over a field's digits says of its number. Assumes nothing.
+-- Laws for the loop over the digits of a field. Assumes nothing.
 use mathlib.Core.Path.{_≡_, refl}
 use mathlib.Core.Bool.{_&&_, cond, and-false}
 use mathlib.Core.List.{List, [], _∷_}

@@ -1,4 +1,4 @@
--- `Asked` of specs/Asked.antt. Assumes nothing.
+-- Proves `Asked` of specs/Asked.antt. Assumes nothing.
 use mathlib.Core.Path.{refl}
 use denote.Ref.{now}
 use Rattle.promises.proofs.Histories.{valid-reachable}

@@ -1,4 +1,4 @@
--- `ByValue` of specs/ByValue.antt: the clauses say it. Assumes nothing.
+-- Proves `ByValue` of specs/ByValue.antt: the clauses say it. Assumes nothing.
 use Rattle.outcomes.specs.ByValue.{ByValue}
 
 pub by-value : ByValue

@@ -1,4 +1,4 @@
--- `Lent` of specs/Lent.antt. Assumes nothing.
+-- Proves `Lent` of specs/Lent.antt. Assumes nothing.
 use mathlib.Core.Path.{_≡_, sym, ap, subst}
 use Rattle.parts.specs.declared.Head.{Head}
 use Rattle.parts.specs.declared.Answer.{Answer}

@@ -1,4 +1,4 @@
--- `Outcomes` of specs/Outcomes.antt. Assumes nothing.
+-- Proves `Outcomes` of specs/Outcomes.antt. Assumes nothing.
 use Prim.Native.Nat.{ℕ}
 use mathlib.Core.Path.{_≡_, refl, sym, ap, _∙_}
 use Rattle.parts.specs.declared.Head.{Head}

@@ -1,4 +1,4 @@
--- `Talks` of specs/Talks.antt: the clauses say it. Assumes nothing.
+-- Proves `Talks` of specs/Talks.antt: the clauses say it. Assumes nothing.
 use Rattle.outcomes.specs.Talks.{Talks}
 
 pub talks : Talks

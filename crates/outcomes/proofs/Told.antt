@@ -1,4 +1,4 @@
--- `Told` of specs/Told.antt: by the demands. Assumes nothing.
+-- Proves `Told` of specs/Told.antt from the demands. Assumes nothing.
 use mathlib.Core.Path.{_≡_, refl, sym, ap, subst, _∙_}
 use mathlib.Core.Logic.{_↔_}
 use mathlib.Core.Bool.{true, false}

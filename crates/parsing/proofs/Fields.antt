@@ -1,4 +1,4 @@
--- A line's fields, from one to the next, and what a number that was read says of them. Assumes nothing.
+-- The fields of a line, one after another, and what a number that was read says about them. Assumes nothing.
 use mathlib.Core.Path.{_≡_, refl, ap}
 use mathlib.Core.Bool.{Bool, true, false, cond}
 use mathlib.Core.List.{List, [], _∷_}

@@ -1,4 +1,4 @@
--- What each way out of `ticks`, `sample` and `frame` says. Assumes nothing.
+-- Laws for each return of `ticks`, `sample` and `frame`. Assumes nothing.
 use mathlib.Core.Path.{_≡_, refl, sym, _∙_}
 use mathlib.Core.Bool.{Bool, true, false, and-false, and-true}
 use mathlib.Core.List.{List, [], _∷_}

@@ -1,4 +1,4 @@
--- What each way out of `parse` and `parse_line` says, by the length of the line, its second byte and its key. Assumes nothing.
+-- Laws for each return of `parse` and `parse_line`, by the length of the line, its second byte and its key. Assumes nothing.
 use mathlib.Core.Path.{_≡_, refl, sym, ap, _∙_}
 use mathlib.Core.Bool.{Bool, true, false, _&&_, cond, and-false}
 use mathlib.Core.List.{List, [], _∷_}

@@ -1,4 +1,4 @@
--- What the loop over a frame's pairs says: `framed`, from one pair to the next. Assumes nothing.
+-- Laws for the loop over a frame's hex pairs: `framed`, from one pair to the next. Assumes nothing.
 use mathlib.Core.Path.{_≡_, refl, sym, _∙_}
 use mathlib.Core.Bool.{Bool, true, false, and-false}
 use mathlib.Core.List.{List, [], _∷_, _++_, map, map-append, append-nil, append-assoc}

@@ -1,4 +1,4 @@
--- The direction bit, and what it does to d. Assumes nothing.
+-- What the direction bit does to d. Assumes nothing.
 use Prim.Native.Nat.{ℕ, _+_, _-_, _/_, _%_, _<_}
 use native.Mathlib.Nat.{mod-lt, mod-eq-of-lt}
 use native.Mathlib.Omega.{arith}

@@ -1,4 +1,4 @@
--- The laws of specs/Laws, proved. Assumes nothing.
+-- Proves the laws of specs/Laws.antt. Assumes nothing.
 use Prim.Native.Nat.{ℕ, _+_, _*_, _/_, _%_, _≤_, _<_}
 use native.Mathlib.Nat.{mod-lt, mod-eq-of-lt, mod-add-div'}
 use native.Mathlib.Omega.{arith}

@@ -1,4 +1,5 @@
--- `modℤ`: it is below t, differs by a multiple of t, and a multiple of t more is the same. Assumes nothing.
+-- `modℤ`: the result is below t, differs from the number by a multiple of
+-- t, and does not change when a multiple of t is added. Assumes nothing.
 use Prim.Native.Nat.{ℕ, zero, suc, _+_, _*_, _-_, _/_, _%_, _≤_, _<_}
 use native.Mathlib.Nat.{mod-lt, mod-eq-of-lt, mod-eq-sub-mod, mod-add-div', add-mod-right, zero-mul}
 use native.Mathlib.Omega.{arith}

@@ -1,4 +1,4 @@
--- The offset of a valid profile, as code passes it on: an i32 goes by its bits, and comes back as the same number. Assumes nothing.
+-- The offset of a valid profile as the code passes it: an i32 is passed as its bits, and comes back as the same number. Assumes nothing.
 use Prim.Native.Nat.{_<_, _^_}
 use native.Mathlib.Omega.{arith}
 use lib.IntN.{natAbs}

@@ -1,4 +1,4 @@
--- Whole numbers by their sign, for code that tests `0 <= z` and goes on with unsigned numbers. Assumes nothing.
+-- Whole numbers by their sign, for code that tests `0 <= z` and then uses unsigned numbers. Assumes nothing.
 use Prim.Native.Nat.{ℕ, zero, suc, _+_, _-_, _%_, _≤_, _<_, _^_, zero-le}
 use native.Mathlib.Nat.{mod-eq-of-lt, add-mod-right, add-zero, sub-zero}
 use native.Mathlib.Omega.{arith}

@@ -1,4 +1,4 @@
--- The worked numbers, by computation. Assumes nothing.
+-- Proves the examples of specs/Worked.antt by computation. Assumes nothing.
 use native.Mathlib.Omega.{arith}
 use mathlib.Core.Path.{refl, sym}
 use Rattle.cases.proofs.Cases.{true-false}

@@ -1,4 +1,4 @@
--- What the loop over a frame's bytes says of the text. Assumes nothing.
+-- Laws for the loop over a frame's bytes. Assumes nothing.
 use mathlib.Core.Path.{_≡_, refl, sym}
 use mathlib.Core.List.{List, [], _∷_, _++_, append-nil, append-assoc}
 use Prim.Native.Nat.{ℕ, _+_, _≤_, _<_}

@@ -1,4 +1,4 @@
--- What a call does to the device: a sample, a reset and a request that is served alter it, and nothing else does.
+-- Only a sample, a reset and a served request change the device.
 use Prim.Native.Nat.{ℕ}
 use lib.Dec.{ltb}
 use mathlib.Core.Path.{_≡_, refl}

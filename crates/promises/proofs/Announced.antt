@@ -1,4 +1,4 @@
--- What is counted as announced is what the last emergency frame since boot-up said.
+-- What counts as announced is what the last emergency frame since boot-up said.
 use Prim.Native.Nat.{ℕ}
 use mathlib.Core.Path.{_≡_, refl, _∙_}
 use mathlib.Core.Bool.{Bool, true, false}

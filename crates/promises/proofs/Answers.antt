@@ -1,4 +1,4 @@
--- What a slot means, by what waits: the boot-up frame in Initialising, else nothing or the first of the line.
+-- What a slot means, by what waits: the boot-up frame in Initialising, otherwise nothing or the first of the line.
 use mathlib.Core.Path.{_≡_}
 use mathlib.Core.Bool.{true, false}
 use mathlib.Core.List.{[]}

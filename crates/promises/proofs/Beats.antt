@@ -1,4 +1,4 @@
--- The heartbeat's timer is the rest of the ticks that the calls count.
+-- The heartbeat's timer is the remainder of the ticks that the calls count.
 use Prim.Native.Nat.{ℕ, suc}
 use lib.Dec.{eqb}
 use mathlib.Core.Path.{_≡_, ap₂}

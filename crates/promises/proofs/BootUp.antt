@@ -1,4 +1,4 @@
--- The boot-up frame waits until the next slot, whatever is called before it.
+-- The boot-up frame waits until the next slot, after any other calls.
 use Prim.Native.Nat.{ℕ, _+_}
 use native.Mathlib.Omega.{arith}
 use lib.Dec.{ltb}

@@ -1,4 +1,4 @@
--- `ByEntries` of specs/ByEntries.antt.
+-- Proves `ByEntries` of specs/ByEntries.antt.
 use Prim.Native.Nat.{ℕ, zero, suc, _-_, _≤_, _<_, zero-le}
 use native.Mathlib.Nat.{add-zero, sub-zero}
 use native.Mathlib.Omega.{arith}

@@ -1,4 +1,4 @@
--- What a frame means, by which frame it is; and the other way, which frame it was, by what it means.
+-- From a frame to what it means, and back from what it means to which frame it was.
 use Prim.Native.Nat.{ℕ, _+_}
 use native.Mathlib.Omega.{arith}
 use lib.Dec.{eqb, leb}

@@ -1,4 +1,4 @@
--- A PDO's clock is the rest of the ticks and SYNCs that the calls count, while the PDO can join.
+-- A PDO's clock is the remainder of the ticks and SYNCs that the calls count, while the PDO can join.
 use Prim.Native.Nat.{ℕ, suc}
 use lib.Dec.{eqb}
 use mathlib.Core.Path.{_≡_, refl, sym, ap, ap₂, subst, _∙_}

@@ -1,4 +1,4 @@
--- A PDO's clock stays valid: each count stands below its period at a tick, at a SYNC and after a write of the period.
+-- A PDO's clock stays valid: each count is below its period after a tick, after a SYNC and after a write of the period.
 use Prim.Native.Nat.{ℕ, suc}
 use lib.Dec.{eqb, ltb}
 use mathlib.Core.Path.{_≡_, refl, sym, ap, _∙_}

@@ -1,4 +1,4 @@
--- `Codes` of specs/Codes.antt.
+-- Proves `Codes` of specs/Codes.antt.
 use Prim.Native.Nat.{ℕ, _+_, _≤_}
 use native.Mathlib.Omega.{arith}
 use lib.Dec.{eqb, ltb}

@@ -1,4 +1,4 @@
--- A kind's condition taken apart, and what it is after a write.
+-- The condition of a kind split into its parts, and what it is after a write.
 use Prim.Native.Nat.{ℕ}
 use lib.Dec.{eqb}
 use mathlib.Core.Path.{_≡_, refl, ap, _∙_}

@@ -1,4 +1,4 @@
--- `Counting` of specs/Counting.antt.
+-- Proves `Counting` of specs/Counting.antt.
 use Prim.Native.Nat.{ℕ, suc, _*_, _/_, _%_, _<_}
 use native.Mathlib.Nat.{mod-add-div', mul-mod-left}
 use native.Mathlib.Omega.{arith}

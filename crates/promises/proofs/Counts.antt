@@ -1,4 +1,4 @@
--- An act that fits leaves valid timers: each count stands below its period, also after a write of the period.
+-- An act that fits leaves valid timers: each count is below its period, also after a write of the period.
 use Prim.Native.Nat.{ℕ, _≤_}
 use native.Mathlib.Omega.{arith}
 use lib.Dec.{eqb}

@@ -1,4 +1,4 @@
--- `Demand1` of specs/Demand1.antt.
+-- Proves `Demand1` of specs/Demand1.antt.
 use Prim.Native.Nat.{ℕ, _<_, _≤_}
 use native.Mathlib.Omega.{arith}
 use lib.Dec.{eqb, leb, ltb}

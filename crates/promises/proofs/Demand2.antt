@@ -1,4 +1,4 @@
--- `Demand2` of specs/Demand2.antt.
+-- Proves `Demand2` of specs/Demand2.antt.
 use Rattle.promises.specs.Demand2.{Demand2}
 use Rattle.promises.proofs.NetworkStates.{network-states}
 use Rattle.promises.proofs.Starts.{starts}

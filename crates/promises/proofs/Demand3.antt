@@ -1,4 +1,4 @@
--- `Demand3` of specs/Demand3.antt.
+-- Proves `Demand3` of specs/Demand3.antt.
 use Rattle.promises.specs.Demand3.{Demand3}
 use Rattle.promises.proofs.FiveSlots.{five-slots}
 use Rattle.promises.proofs.Gap.{gap}

@@ -1,4 +1,5 @@
--- How a kind leaves in one call: what waited and no longer waits was sent, or withdrawn; and what is sent or withdrawn no longer waits.
+-- How a kind leaves in one call: a kind that waited and no longer waits was
+-- sent or withdrawn, and a kind that is sent or withdrawn no longer waits.
 use lib.Dec.{eqb}
 use mathlib.Core.Path.{_≡_, refl, sym, ap, _∙_}
 use mathlib.Core.Logic.{_⊎_, inl, ⊎-map}

@@ -1,4 +1,4 @@
--- `ServedRightly` of specs/Effects.antt: what a served request does, by what is due to it.
+-- Proves `ServedRightly` of specs/Effects.antt: what a served request does, for each kind of reply due to it.
 use Prim.Native.Nat.{ℕ}
 use lib.Dec.{eqb}
 use mathlib.Core.Path.{_≡_, refl, sym, ap, subst, _∙_}

@@ -1,4 +1,4 @@
--- `Emergency` of specs/Emergency.antt.
+-- Proves `Emergency` of specs/Emergency.antt.
 use Prim.Native.Nat.{ℕ, _+_}
 use lib.Dec.{ltb}
 use mathlib.Core.Path.{_≡_, refl, sym, ap, _∙_}

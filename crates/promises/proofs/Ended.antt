@@ -1,4 +1,4 @@
--- Each withdrawal ends the condition of what it takes.
+-- Each withdrawal ends the condition of the kind that it takes.
 use Prim.Native.Nat.{ℕ}
 use mathlib.Core.Path.{_≡_, refl, sym, ap, _∙_}
 use mathlib.Core.Bool.{true, false, not, _&&_, and-false}

@@ -1,4 +1,4 @@
--- 1003-0 counts the good-to-missing changes since the list was last emptied, at most 4: `error-list`, of specs/ErrorList.antt.
+-- Proves `ErrorList` of specs/ErrorList.antt: 1003-0 counts the good-to-missing changes since the list was last emptied, at most 4.
 use Prim.Native.Nat.{ℕ, zero, suc, _≤_, min}
 use native.Mathlib.Omega.{arith}
 use lib.Dec.{ltb}

@@ -1,4 +1,4 @@
--- What a call means fits the head's state: what is known of an act where a call means it.
+-- The act that a call means fits the head's state.
 use Prim.Native.Nat.{ℕ, _≤_}
 use lib.Dec.{eqb, leb}
 use mathlib.Core.Path.{_≡_, refl}

@@ -1,4 +1,4 @@
--- `FiveSlots` of specs/FiveSlots.antt.
+-- Proves `FiveSlots` of specs/FiveSlots.antt.
 use Prim.Native.Nat.{ℕ, suc, _≤_}
 use native.Mathlib.Omega.{arith}
 use lib.Dec.{eqb}

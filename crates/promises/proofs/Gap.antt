@@ -1,4 +1,4 @@
--- `Gap` of specs/Gap.antt: no position frame leaves while the reading is missing, and missing is told.
+-- Proves `Gap` of specs/Gap.antt: no position frame leaves while the reading is missing, and the head announces it.
 use Prim.Native.Nat.{ℕ, _≤_}
 use mathlib.Core.Path.{_≡_, refl, sym, ap, _∙_}
 use mathlib.Core.Bool.{Bool, true, false}

@@ -1,4 +1,4 @@
--- What holds of nothing, and of what each of the head's identifiers can mean, holds of what any frame means.
+-- A property of "no effect" and of everything that the head's identifiers can mean is a property of what any frame means.
 use Prim.Native.Nat.{_+_}
 use mathlib.Core.Path.{_≡_}
 use mathlib.Core.Bool.{false, _||_}

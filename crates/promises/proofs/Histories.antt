@@ -1,4 +1,4 @@
--- Power-up and calls leave valid heads: what holds of every valid head holds of every reachable one.
+-- Power-up and calls leave valid heads: a property of every valid head is a property of every reachable head.
 use Prim.Native.Nat.{ℕ, _≤_}
 use native.Mathlib.Omega.{arith}
 use lib.Dec.{leb}

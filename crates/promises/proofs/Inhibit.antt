@@ -1,4 +1,4 @@
--- What is left of an inhibit time: started by sending the emergency, run down by ticks, ended by a reset, and altered by no other call.
+-- What is left of an inhibit time: sending the emergency starts it, ticks run it down, a reset ends it, and no other call changes it.
 use Prim.Native.Nat.{ℕ, _+_, _-_, _*_, _/_, _<_, _≤_}
 use native.Mathlib.Omega.{arith}
 use lib.Dec.{ltb}

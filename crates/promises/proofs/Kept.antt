@@ -1,4 +1,4 @@
--- No call alters the settings but an accepted write and a reset, nor the saved set but an accepted write of 1010-1 or 1011-1.
+-- Only an accepted write and a reset change the settings, and only an accepted write of 1010-1 or 1011-1 changes the saved set.
 use lib.Dec.{eqb}
 use mathlib.Core.Path.{_≡_, refl, ap, _∙_}
 use mathlib.Core.List.{List, [], _∷_}

@@ -1,4 +1,4 @@
--- The kinds and their numbers in the line, by `kinds`: 01's order. And what a slot sends, by the number that stands first.
+-- The kinds and their numbers in the line, in 01's order (`kinds`); and what a slot sends, by the first number in the line.
 use Prim.Native.Nat.{ℕ, zero, suc, _<_, _≤_}
 use native.Mathlib.Omega.{arith}
 use lib.Dec.{eqb}

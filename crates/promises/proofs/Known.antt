@@ -1,4 +1,4 @@
--- Which frames a call sends, and by what they are known.
+-- Which frames a call sends, and how they are recognised.
 use Prim.Native.Nat.{ℕ, _+_, _/_, _%_, _≤_}
 use native.Mathlib.Omega.{arith}
 use lib.Dec.{eqb, leb, ltb}

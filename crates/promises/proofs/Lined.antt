@@ -1,4 +1,4 @@
--- Who waits keeps its place, and who joins stands behind, in 01's order.
+-- A kind that waits keeps its place, and a kind that joins stands behind, in 01's order.
 use Prim.Native.Nat.{ℕ}
 use lib.Dec.{eqb}
 use lib.ListN.{drop}

@@ -1,4 +1,4 @@
--- What a call that means something does.
+-- What a call with an effect does.
 use lib.Dec.{eqb, ltb, leb}
 use mathlib.Core.Path.{_≡_, refl, sym, ap, _∙_}
 use mathlib.Core.Bool.{Bool, true, false, not, _&&_, Bool·beq, and-false}

@@ -1,4 +1,4 @@
--- A kind joins at 01's moments, and at no others: `moments-so`, of specs/Moments.antt.
+-- Proves `Moments` of specs/Moments.antt: a kind joins at 01's moments, and at no others.
 use Prim.Native.Nat.{ℕ}
 use native.Mathlib.Omega.{arith}
 use lib.Dec.{eqb, leb, ltb}

@@ -1,4 +1,4 @@
--- `NetworkStates` of specs/NetworkStates.antt.
+-- Proves `NetworkStates` of specs/NetworkStates.antt.
 use mathlib.Core.Path.{_≡_, refl, ap, _∙_}
 use mathlib.Core.Logic.{_⊎_, inl, inr}
 use lib.Dec.{ltb}

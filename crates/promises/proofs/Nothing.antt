@@ -1,4 +1,4 @@
--- A call that has no effect leaves the head as it was.
+-- A call that has no effect leaves the head unchanged.
 use mathlib.Core.Path.{_≡_, ap}
 use mathlib.Core.Bool.{false, and-not-self}
 use mathlib.Core.List.{[]}

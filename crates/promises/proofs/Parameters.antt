@@ -1,4 +1,4 @@
--- `Parameters` of specs/Parameters.antt.
+-- Proves `Parameters` of specs/Parameters.antt.
 use Prim.Native.Nat.{ℕ, _/_, _%_, _<_, _≤_}
 use native.Mathlib.Omega.{arith}
 use mathlib.Core.Path.{_≡_, refl}

@@ -1,4 +1,4 @@
--- `PassedOver` of specs/PassedOver.antt.
+-- Proves `PassedOver` of specs/PassedOver.antt.
 use Prim.Native.Nat.{ℕ, suc, _%_}
 use native.Mathlib.Omega.{arith}
 use native.Mathlib.Nat.{suc-mod, zero-mod}

@@ -1,5 +1,5 @@
--- The position is 01's formula, an accepted preset makes it read the preset, and a
--- position frame carries what 6004h reads: `positioned`, of specs/Readings.antt.
+-- Proves `Positioned` of specs/Readings.antt: the position is 01's formula, after an
+-- accepted preset it is the preset, and a position frame carries what 6004h reads.
 use Prim.Native.Nat.{ℕ, _<_}
 use native.Mathlib.Omega.{arith}
 use lib.Dec.{eqb}

@@ -1,4 +1,4 @@
--- The reading is the last sample taken, and what 6004h, 1001h and 6503h tell of it: `tells`, of specs/Readings.antt.
+-- Proves `Tells` of specs/Readings.antt: the reading is the last sample taken, and what 6004h, 1001h and 6503h show of it.
 use Prim.Native.Nat.{ℕ}
 use native.Mathlib.Omega.{arith}
 use lib.Dec.{ltb}

@@ -1,5 +1,5 @@
--- What was written is read until an accepted write or a reset: what an rw entry but
--- 1003-0 reads is in the settings, by computation for the whole table.
+-- What was written is read until an accepted write or a reset: what an rw entry
+-- other than 1003-0 reads is in the settings, by computation for the whole table.
 use Prim.Native.Nat.{ℕ}
 use lib.Dec.{eqb}
 use lib.ListN.{getD}

@@ -1,4 +1,4 @@
--- Each refusal number is given exactly when it is due, and a refused call leaves the head as it was. By the cases of the tests.
+-- Each refusal number is given exactly when it is due, and a refused call leaves the head unchanged. By cases of the tests.
 use Prim.Native.Nat.{ℕ}
 use lib.Dec.{eqb}
 use mathlib.Core.Path.{_≡_, refl, sym, _∙_}

@@ -1,4 +1,4 @@
--- A count that begins again at its period, as a timer of the head does, is the rest of one that goes on.
+-- A count that restarts at its period, like a timer of the head, is the remainder of a count that goes on.
 use Prim.Native.Nat.{ℕ, suc, _%_, _<_}
 use native.Mathlib.Omega.{arith}
 use native.Mathlib.Nat.{mod-lt, mod-eq-of-lt, mod-self, suc-mod, zero-mod}

@@ -1,4 +1,4 @@
--- A slot sends as a reply only what is owed: `answers`, of specs/Service.antt.
+-- Proves `Answers` of specs/Service.antt: a slot sends as a reply only what is owed.
 use Prim.Native.Nat.{ℕ, _+_, _≤_}
 use native.Mathlib.Omega.{arith}
 use lib.Dec.{eqb}

@@ -1,5 +1,5 @@
--- The line after a service request: those whose condition the write ended are
--- gone, the others keep their order, and the reply stands at the end.
+-- The line after a service request: kinds whose condition the write ended
+-- are gone, the others keep their order, and the reply stands at the end.
 use Prim.Native.Nat.{ℕ}
 use lib.Dec.{eqb}
 use mathlib.Core.Path.{_≡_, refl, sym, ap, ap₂, _∙_}

@@ -1,4 +1,4 @@
--- `Resets` of specs/Resets.antt.
+-- Proves `Resets` of specs/Resets.antt.
 use Prim.Native.Nat.{ℕ}
 use lib.ListN.{drop}
 use mathlib.Core.Path.{_≡_, refl, sym, ap, subst, _∙_}

@@ -1,4 +1,4 @@
--- Which counts a write begins anew.
+-- Which counts a write restarts.
 use Prim.Native.Nat.{ℕ}
 use lib.Dec.{eqb}
 use mathlib.Core.Path.{_≡_, refl, ap, _∙_}

@@ -1,4 +1,4 @@
--- The node number is that of power-up: no call alters it.
+-- The node number is that of power-up: no call changes it.
 use Prim.Native.Nat.{ℕ}
 use mathlib.Core.Path.{_≡_, refl, _∙_}
 use mathlib.Core.List.{List, [], _∷_}

@@ -1,4 +1,4 @@
--- Each request that is served gets what is due: `serves`, of specs/Service.antt.
+-- Proves `Serves` of specs/Service.antt: each request that is served gets what is due.
 use Prim.Native.Nat.{_+_}
 use lib.Dec.{eqb}
 use mathlib.Core.Path.{_≡_, refl, sym, ap, _∙_}

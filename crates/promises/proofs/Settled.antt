@@ -1,5 +1,5 @@
--- The line of a valid head as it settles, by who waits: withdrawing one that does not wait changes nothing,
--- nor does the emergency that joins again.
+-- The line of a valid head as it settles, by who waits: withdrawing a kind that
+-- does not wait changes nothing, and neither does an emergency that joins again.
 use Prim.Native.Nat.{ℕ}
 use native.Mathlib.Omega.{arith}
 use mathlib.Core.Path.{_≡_, refl, sym, ap, _∙_}

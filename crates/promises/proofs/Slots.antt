@@ -1,4 +1,4 @@
--- What a slot answers, and that nothing waits in Initialising.
+-- What a slot answers, and that no kind waits in Initialising.
 use Prim.Native.Nat.{ℕ}
 use native.Mathlib.Omega.{arith}
 use mathlib.Core.Path.{_≡_, sym, ap, _∙_}

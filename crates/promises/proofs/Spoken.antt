@@ -1,4 +1,4 @@
--- An NMT command by its bytes is one that the head hears, and the other way.
+-- An NMT command, recognised by its bytes, is one that the head hears, and the other way round.
 use Prim.Native.Nat.{ℕ}
 use lib.Dec.{eqb}
 use mathlib.Core.Path.{_≡_, sym, ap, subst, _∙_}

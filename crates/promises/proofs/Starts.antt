@@ -1,4 +1,4 @@
--- `Starts` of specs/Starts.antt.
+-- Proves `Starts` of specs/Starts.antt.
 use Prim.Native.Nat.{ℕ, suc, _+_, _<_, _≤_}
 use native.Mathlib.Omega.{arith}
 use lib.Dec.{eqb}

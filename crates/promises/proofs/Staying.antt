@@ -1,4 +1,4 @@
--- `Staying` of specs/Staying.antt: the whole table at once, by computation.
+-- Proves `Staying` of specs/Staying.antt: the whole table at once, by computation.
 use Prim.Native.Nat.{ℕ, _+_}
 use lib.Dec.{eqb}
 use lib.ListN.{getD}

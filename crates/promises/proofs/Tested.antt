@@ -1,4 +1,4 @@
--- What specs/Moments.antt tests of a call, by what the call means.
+-- The tests of calls in specs/Moments.antt agree with what the calls mean.
 use Prim.Native.Nat.{ℕ}
 use lib.Dec.{eqb, leb, ltb}
 use mathlib.Core.Path.{_≡_, refl, sym, ap, _∙_}

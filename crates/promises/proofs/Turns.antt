@@ -1,4 +1,4 @@
--- The head is a machine of crate waiting: its calls do to the line what they tell, and so each kind leaves in its turn.
+-- The head is a machine of crate waiting: its calls do to the line what they tell, so each kind leaves in its turn.
 use Prim.Native.Nat.{ℕ}
 use mathlib.Core.Path.{_≡_, refl, sym, ap, _∙_}
 use mathlib.Core.Bool.{Bool, true, false, not, _&&_, and-false}

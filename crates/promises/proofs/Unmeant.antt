@@ -1,4 +1,4 @@
--- A frame that is not meant for the head means nothing: an equation for each reason.
+-- A frame that is not meant for the head has no effect: one equation for each reason.
 use Prim.Native.Nat.{_+_}
 use native.Mathlib.Omega.{arith}
 use lib.Dec.{eqb, leb}

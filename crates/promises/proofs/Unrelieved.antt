@@ -1,4 +1,4 @@
--- A gap goes on while no good sample, no stop and no reset relieves it: what was so of it stays so.
+-- A gap goes on while no good sample, no stop and no reset ends it: what held for it still holds.
 use Prim.Native.Nat.{ℕ}
 use mathlib.Core.Path.{_≡_, refl, sym, ap, _∙_}
 use mathlib.Core.Bool.{true, false}

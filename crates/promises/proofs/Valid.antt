@@ -1,4 +1,4 @@
--- Power-up makes a valid head, and each call leaves one: an act that fits does. A clause for each act, where acts differ.
+-- Power-up makes a valid head, and each call leaves one, because an act that fits does. One clause for each act, where acts differ.
 use Prim.Native.Nat.{ℕ, _≤_}
 use native.Mathlib.Omega.{arith}
 use mathlib.Core.Path.{_≡_, refl, sym, _∙_}

@@ -1,4 +1,4 @@
--- Who waits after an act, in closed form: the kinds that joined, and those that waited and neither were sent nor had their condition end.
+-- Who waits after an act, in closed form: the kinds that joined, and those that waited, were not sent and kept their condition.
 use Prim.Native.Nat.{ℕ}
 use native.Mathlib.Omega.{arith}
 use mathlib.Core.Path.{_≡_, sym, _∙_}

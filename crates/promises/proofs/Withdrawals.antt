@@ -1,4 +1,4 @@
--- A kind's condition ends by 01's withdrawals, and by no other call but the slot that sends the emergency.
+-- Only 01's withdrawals end a kind's condition, and the slot that sends the emergency.
 use lib.Dec.{eqb, ltb}
 use mathlib.Core.Path.{_≡_, refl, sym, ap, ap₂, _∙_}
 use mathlib.Core.Logic.{_⊎_, inl, inr}

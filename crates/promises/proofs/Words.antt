@@ -1,4 +1,4 @@
--- `Words` of specs/Words.antt.
+-- Proves `Words` of specs/Words.antt.
 use Prim.Native.Nat.{ℕ, _<_}
 use native.Mathlib.Omega.{arith}
 use lib.Dec.{eqb, ltb}

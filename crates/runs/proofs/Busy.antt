@@ -1,4 +1,4 @@
--- `Busy` of specs/Busy.antt: what is asked for by computation, what is sent then by the theorems.
+-- Proves `Busy` of specs/Busy.antt: the conditions by computation, and what is then sent by the theorems.
 use native.Mathlib.Omega.{arith}
 use mathlib.Core.Path.{refl}
 use mathlib.Core.List.{_++_}

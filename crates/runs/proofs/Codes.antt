@@ -1,4 +1,4 @@
--- `CodesMet` of specs/Codes.antt, by computation.
+-- Proves `CodesMet` of specs/Codes.antt by computation.
 use mathlib.Core.Path.{refl}
 use Rattle.entries.specs.Table.{entries, table, lookup}
 use Rattle.dictionary.specs.Reads.{shownAt}

@@ -1,4 +1,5 @@
--- A head by calls from power-up to which every rw entry can be written, by computation: the calls of `ready`, one write after another.
+-- Proves the runs of specs/Effects.antt by computation: a head, made by calls from power-up,
+-- that takes a write to every rw entry. It makes the calls of `ready`, one write after another.
 use Prim.Native.Nat.{ℕ}
 use lib.IntN.{pos}
 use mathlib.Core.Path.{_≡_, refl, sym, ap, ap₂, subst, _∙_}

@@ -1,4 +1,4 @@
--- `Losing` of specs/ErrorList.antt, by computation.
+-- Proves `Losing` of specs/ErrorList.antt by computation.
 use mathlib.Core.Path.{refl}
 use Rattle.entries.specs.Table.{entries, table, lookup}
 use Rattle.dictionary.specs.Reads.{shownAt}

@@ -1,4 +1,4 @@
--- `FullLine` of specs/FullLine.antt, by computation.
+-- Proves `FullLine` of specs/FullLine.antt by computation.
 use mathlib.Core.Path.{refl}
 use mathlib.Core.List.{[], _∷_, _++_}
 use Rattle.entries.specs.Table.{entries, table, lookup}

@@ -1,4 +1,4 @@
--- `Joining` of specs/Joining.antt, by computation.
+-- Proves `Joining` of specs/Joining.antt by computation.
 use Prim.Native.Nat.{suc, _%_}
 use native.Mathlib.Omega.{arith}
 use mathlib.Core.Path.{refl, ap}

@@ -1,4 +1,4 @@
--- `Positioning` of specs/Readings.antt, by computation.
+-- Proves `Positioning` of specs/Readings.antt by computation.
 use mathlib.Core.Path.{_≡_, refl, sym, _∙_}
 use mathlib.Core.Bool.{Bool, true, false, not}
 use Rattle.cases.proofs.Cases.{true-false}

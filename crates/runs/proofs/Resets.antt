@@ -1,4 +1,4 @@
--- A head by calls from power-up at which "save" and "load" are followed by other calls and a reset, by computation.
+-- Proves the runs of specs/Resets.antt by computation: "save" and "load", followed by other calls and a reset.
 use Prim.Native.Nat.{ℕ}
 use lib.Dec.{eqb}
 use mathlib.Core.Path.{_≡_, refl, sym, ap, subst, _∙_}

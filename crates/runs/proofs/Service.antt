@@ -1,4 +1,4 @@
--- `Serving` of specs/Service.antt, by computation.
+-- Proves `Serving` of specs/Service.antt by computation.
 use mathlib.Core.Path.{refl}
 use Rattle.entries.specs.Table.{entries, table, lookup}
 use Rattle.dictionary.specs.Reads.{shownAt}

@@ -1,4 +1,4 @@
--- `StartsMet` of specs/Starts.antt, by computation.
+-- Proves `StartsMet` of specs/Starts.antt by computation.
 use Prim.Native.Nat.{ℕ}
 use native.Mathlib.Omega.{arith}
 use mathlib.Core.Path.{refl, ap}

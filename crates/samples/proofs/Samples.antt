@@ -1,4 +1,4 @@
--- A sample's parts, put into a head, are what `promises` says, and the head stays valid.
+-- The head with the parts that a sample changes is what `promises` says, and stays valid.
 use Prim.Native.Nat.{ℕ}
 use native.Mathlib.Omega.{arith}
 use lib.Dec.{eqb}

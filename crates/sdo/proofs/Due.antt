@@ -1,4 +1,4 @@
--- The service as the code goes is 01's list "First that applies".
+-- The service in the order of the code is 01's list "First that applies".
 use Prim.Native.Nat.{ℕ, _-_, _/_, _%_, _<_}
 use native.Mathlib.Omega.{arith}
 use native.Mathlib.Nat.{mod-lt}

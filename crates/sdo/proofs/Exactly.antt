@@ -1,4 +1,4 @@
--- When each reply is due, by what a request is and what is found: each way to the reply it leads to, and back.
+-- When each reply is due, by what the request is and what is found: each case leads to its reply, and each reply comes from its case.
 use Prim.Native.Nat.{ℕ, zero, suc, _-_, _/_, _%_, _<_}
 use native.Mathlib.Omega.{arith}
 use mathlib.Core.Path.{_≡_, refl, sym, ap, subst, _∙_}

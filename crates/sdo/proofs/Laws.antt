@@ -1,4 +1,4 @@
--- The laws of specs/Laws, by what is due and by what it tells.
+-- Proves the laws of specs/Laws.antt, by what is due and what it tells.
 use Prim.Native.Nat.{ℕ, _+_, _-_, _/_, _%_, _^_, _≤_, _<_}
 use native.Mathlib.Omega.{arith}
 use mathlib.Core.Path.{_≡_, refl, sym, ap, _∙_}

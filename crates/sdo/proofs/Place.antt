@@ -1,4 +1,4 @@
--- What is found is a place of the table, of the index in bytes 1 and 2 and the sub-index in byte 3.
+-- What is found is the place in the table of the index in bytes 1 and 2 and the sub-index in byte 3.
 use Prim.Native.Nat.{ℕ, _+_, _*_, _<_}
 use native.Mathlib.Omega.{arith}
 use mathlib.Core.Path.{_≡_, sym, ap, _∙_}

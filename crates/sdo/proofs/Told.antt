@@ -1,4 +1,4 @@
--- What a value and a confirmation tell: the tests of 01's list that failed before them.
+-- What a value and a confirmation tell: which tests of 01's list failed before them.
 use Prim.Native.Nat.{ℕ, _^_, _<_}
 use native.Mathlib.Omega.{arith}
 use native.Mathlib.Nat.{mod-lt}

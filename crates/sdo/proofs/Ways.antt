@@ -1,4 +1,4 @@
--- The ways to a reply: what a request is and what is found lead to what is due, and there is no other way.
+-- All ways to a reply: what the request is and what is found decide what is due.
 use Prim.Native.Nat.{ℕ, zero, suc, _/_, _%_, _<_}
 use native.Mathlib.Omega.{arith}
 use native.Mathlib.Nat.{mod-lt}

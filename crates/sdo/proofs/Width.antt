@@ -1,4 +1,4 @@
--- Each type has 1, 2 or 4 bytes, and what holds of these three widths holds of every entry's.
+-- Each type has 1, 2 or 4 bytes: a property of these three widths is a property of every entry's width.
 use Prim.Native.Nat.{ℕ, _<_}
 use mathlib.Core.Path.{_≡_, refl, sym, ap, subst, _∙_}
 use mathlib.Core.Bool.{Bool, true, false, _||_}

@@ -1,4 +1,4 @@
--- The head with what a request leaves is the one that `promises` says: a reply alone, and what each write alters besides.
+-- The head after a request is what `promises` says: for a reply without a write, and for each kind of write.
 use Prim.Native.Nat.{ℕ, _<_}
 use native.Mathlib.Omega.{arith}
 use lib.Dec.{eqb, leb}

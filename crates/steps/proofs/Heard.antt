@@ -1,4 +1,4 @@
--- What a frame means, told apart by the parts of a head that decide it, is what `promises` says that it means.
+-- What a frame means, decided from parts of a head, is what `promises` says.
 use Prim.Native.Nat.{ℕ, _+_}
 use lib.Dec.{eqb, leb}
 use mathlib.Core.Path.{_≡_, sym, subst}

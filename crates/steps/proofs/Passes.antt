@@ -1,4 +1,4 @@
--- `Laws` of specs/Passes.antt.
+-- Proves `Laws` of specs/Passes.antt.
 use mathlib.Core.Path.{sym, ap}
 use borrow.Author.Tests.{ne-eqb}
 use Rattle.can.specs.Frame.{refusalOf}

@@ -1,4 +1,4 @@
--- A received frame: the head that its way leaves is the one that `promises` says, and it is valid.
+-- The head after each way of a received frame is what `promises` says, and is valid.
 use Prim.Native.Nat.{ℕ, _<_}
 use native.Mathlib.Omega.{arith}
 use lib.Dec.{eqb, leb}

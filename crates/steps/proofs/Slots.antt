@@ -1,4 +1,4 @@
--- A slot's answer is what `promises` says, and so is the head into which the parts of its way are put; it stays valid.
+-- The answer of a slot is what `promises` says, and so is the head with the parts that its way changes; the head stays valid.
 use Prim.Native.Nat.{ℕ, _+_}
 use native.Mathlib.Omega.{arith}
 use lib.Dec.{eqb}

@@ -1,4 +1,4 @@
--- A tick's parts, put into a head, are what `promises` says, and the head stays valid: where somebody may join, and where none does.
+-- The head with the parts that a tick changes is what `promises` says, and stays valid: when some kind may join, and when none does.
 use Prim.Native.Nat.{ℕ, _-_}
 use lib.Dec.{eqb}
 use mathlib.Core.Path.{_≡_, refl, sym, ap, ap₂, subst, _∙_}

@@ -1,4 +1,4 @@
--- A line's number is within the bounds of its form. Assumes nothing.
+-- A number in a line is within the bounds of the line's form. Assumes nothing.
 use mathlib.Core.Bool.{_&&_}
 use mathlib.Core.List.{List, [], _∷_}
 use Prim.Native.Nat.{ℕ}

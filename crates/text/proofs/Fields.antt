@@ -1,4 +1,4 @@
--- A line is its fields with one space between each and the next. Assumes nothing.
+-- A line is its fields with one space between them. Assumes nothing.
 use mathlib.Core.Path.{_≡_, refl}
 use mathlib.Core.Bool.{true, false}
 use mathlib.Core.List.{List, [], _∷_, _++_, map}

@@ -1,4 +1,4 @@
--- A line of a form says what its form says, and a line that has none is malformed. Assumes nothing.
+-- A line that has a form says what the form says, and a line that has none is malformed. Assumes nothing.
 use mathlib.Core.Path.{_≡_, refl, ap, sym, _∙_}
 use mathlib.Core.Bool.{true, _&&_}
 use mathlib.Core.List.{List, [], _∷_, _++_, map}

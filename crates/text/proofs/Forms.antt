@@ -1,4 +1,4 @@
--- `Forms` of specs/Forms.antt. Assumes nothing.
+-- Proves `Forms` of specs/Forms.antt. Assumes nothing.
 use mathlib.Core.Path.{_≡_, refl}
 use mathlib.Core.List.{List, [], _∷_, _++_}
 use Prim.Native.Nat.{ℕ, _+_, _*_, _/_, _%_, _≤_, _<_}

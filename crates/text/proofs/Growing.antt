@@ -1,4 +1,4 @@
--- A line that grows byte by byte, and the lines that a reader hands on. Assumes nothing.
+-- A line that grows byte by byte, and the lines that a reader passes on. Assumes nothing.
 use mathlib.Core.Path.{_≡_, refl, sym, subst}
 use mathlib.Core.Bool.{cond}
 use mathlib.Core.List.{List, [], _∷_, _++_, map, append-nil, append-assoc}

@@ -1,4 +1,4 @@
--- `Laws` of specs/Laws.antt. Assumes nothing.
+-- Proves `Laws` of specs/Laws.antt. Assumes nothing.
 use native.Mathlib.Omega.{arith}
 use lib.ListN.{length-take}
 use Rattle.text.specs.Printed.{frameText, noneText, refusalText}

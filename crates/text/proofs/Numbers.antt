@@ -1,4 +1,4 @@
--- How high a number of so many digits can be. Assumes nothing.
+-- The highest number with n digits. Assumes nothing.
 use mathlib.Core.Path.{_≡_}
 use mathlib.Core.Bool.{true}
 use mathlib.Core.List.{List, [], _∷_}

@@ -1,4 +1,4 @@
--- A list in n places: what it does not fill is 0, and no more than n can be taken. Assumes nothing.
+-- A list in n places: the places that it does not fill are 0, and at most n elements can be taken. Assumes nothing.
 use mathlib.Core.Path.{_≡_, refl, sym, _∙_}
 use mathlib.Core.List.{List, [], _∷_, _++_}
 use Prim.Native.Nat.{ℕ, zero, suc, _-_, _≤_}

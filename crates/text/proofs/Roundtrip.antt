@@ -1,4 +1,4 @@
--- What is printed has 01's form and is one line that is short enough; a printed frame is read again as that frame. Assumes nothing.
+-- What is printed has 01's form and is one line that is short enough; a printed frame, read again, is that frame. Assumes nothing.
 use mathlib.Core.Path.{_≡_, refl, ap, _∙_}
 use mathlib.Core.Bool.{false}
 use mathlib.Core.List.{List, [], _∷_, _++_, map}

@@ -1,4 +1,4 @@
--- The examples of specs/Worked.antt, by computation. Assumes nothing.
+-- Proves the examples of specs/Worked.antt by computation. Assumes nothing.
 use mathlib.Core.Path.{refl}
 use Rattle.text.specs.Lines.{lineOf}
 use Rattle.text.specs.Grammar.{parsed}

@@ -1,4 +1,4 @@
--- What a SYNC leaves of the parts that it may alter, put back, is the head that a SYNC leaves.
+-- The head with the parts that a SYNC changes is what `promises` says.
 use Prim.Native.Nat.{ℕ}
 use native.Mathlib.Omega.{arith}
 use mathlib.Core.Path.{_≡_, refl, sym, ap, _∙_}

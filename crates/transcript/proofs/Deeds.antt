@@ -1,4 +1,4 @@
--- `Deeds` of specs/Deeds.antt.
+-- Proves `Deeds` of specs/Deeds.antt.
 use Prim.Native.Nat.{ℕ, zero, suc}
 use mathlib.Core.Path.{_≡_, refl, ap, sym, _∙_}
 use mathlib.Core.Bool.{cond}

@@ -1,4 +1,4 @@
--- What every call keeps, every line, every byte and every input keeps.
+-- A property that every call keeps is kept by every line, every byte and every input.
 use Prim.Native.Nat.{ℕ, zero, suc}
 use Prim.Native.Char.{code}
 use mathlib.Core.List.{List, [], _∷_}

@@ -1,4 +1,4 @@
--- `Laws` of specs/Laws.antt.
+-- Proves `Laws` of specs/Laws.antt.
 use Rattle.promises.specs.Node1.{node1}
 use Rattle.text.specs.Grammar.{says}
 use Rattle.transcript.specs.Laws.{Laws}

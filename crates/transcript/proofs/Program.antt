@@ -1,4 +1,4 @@
--- `Program` of specs/Program.antt.
+-- Proves `Program` of specs/Program.antt.
 use Prim.Native.Nat.{ℕ, _+_}
 use mathlib.Core.Path.{_≡_, refl, _∙_}
 use mathlib.Core.List.{List}

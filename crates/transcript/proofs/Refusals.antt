@@ -1,4 +1,4 @@
--- A refusal prints its number and leaves the head.
+-- A refusal prints its number and leaves the head unchanged.
 use Prim.Native.Nat.{ℕ, _≤_, _<_}
 use mathlib.Core.Path.{_≡_}
 use mathlib.Core.List.{List}

@@ -1,4 +1,4 @@
--- What a line prints is kept whole: it has at most 64 bytes.
+-- The text that a line prints is kept complete: it has at most 64 bytes.
 use Prim.Native.Nat.{ℕ, _≤_}
 use mathlib.Core.Path.{_≡_}
 use mathlib.Core.List.{List}

@@ -1,4 +1,4 @@
--- The bytes of an input, taken one after the other, print what its lines print one after the other.
+-- The bytes of an input, taken one after another, print what its lines print one after another.
 use Prim.Native.Nat.{ℕ}
 use Prim.Native.Char.{code}
 use mathlib.Core.Path.{_≡_, refl, _∙_}

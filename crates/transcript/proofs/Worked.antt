@@ -1,4 +1,4 @@
--- The sessions of specs/Worked.antt, from the definitions, by computation.
+-- Proves the sessions of specs/Worked.antt from the definitions, by computation.
 use mathlib.Core.Path.{refl}
 use Rattle.entries.specs.Table.{entries, table, lookup}
 use Rattle.dictionary.specs.Reads.{shownAt}

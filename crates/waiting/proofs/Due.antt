@@ -1,4 +1,4 @@
--- Those of a list that are due: who they are, their order, and how they join. Assumes nothing.
+-- The kinds of a list that are due: which they are, their order, and how they join. Assumes nothing.
 use Prim.Native.Nat.{ℕ}
 use mathlib.Core.Path.{_≡_, sym}
 use mathlib.Core.Bool.{Bool, _&&_, and-false}

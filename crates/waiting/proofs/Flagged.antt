@@ -1,4 +1,5 @@
--- Kind after kind, each if it is due: what the code does is what joins, and what is withdrawn, in one call.
+-- The code goes through the kinds, each if it is due: the result is the
+-- line with all that join, or without all that are withdrawn, in one call.
 use Prim.Native.Nat.{ℕ}
 use mathlib.Core.Path.{_≡_, refl, sym, _∙_}
 use mathlib.Core.Bool.{Bool}

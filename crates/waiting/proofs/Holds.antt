@@ -1,4 +1,4 @@
--- What is done to the places is done to the line that they hold. Assumes nothing.
+-- A change to the places is the same change to the line that they hold. Assumes nothing.
 use Prim.Native.Nat.{ℕ, zero, suc, _<_, _≤_}
 use mathlib.Core.Path.{_≡_, refl, ap}
 use mathlib.Core.Bool.{Bool, true, false}

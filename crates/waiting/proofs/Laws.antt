@@ -1,4 +1,4 @@
--- `Laws` and `InTurn` of specs/Laws.antt. Assumes nothing.
+-- Proves `Laws` and `InTurn` of specs/Laws.antt. Assumes nothing.
 use Prim.Native.Nat.{ℕ}
 use mathlib.Core.Path.{refl}
 use Rattle.waiting.specs.Line.{order}

@@ -1,4 +1,4 @@
--- One join, one withdrawal and a slot: `Lines` of specs/Laws.antt. And each kind waits at most once. Assumes nothing.
+-- Proves `Lines` of specs/Laws.antt: one join, one withdrawal and one slot. Also that each kind waits at most once. Assumes nothing.
 use Prim.Native.Nat.{ℕ, _<_, _≤_}
 use mathlib.Core.Path.{_≡_, refl, sym, ap, _∙_}
 use mathlib.Core.Bool.{true, false, or-true}

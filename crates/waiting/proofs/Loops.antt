@@ -1,4 +1,4 @@
--- What a loop over n places says of `has`, from one place to the next. Assumes nothing.
+-- Laws for a loop over n places that computes `has`, from one place to the next. Assumes nothing.
 use mathlib.Core.Path.{_≡_}
 use mathlib.Core.Bool.{true, false}
 use mathlib.Core.List.{List}

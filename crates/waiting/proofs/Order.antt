@@ -1,4 +1,4 @@
--- The order is kept: `InOrder` of specs/Laws.antt, of every call. Assumes nothing.
+-- Proves `InOrder` of specs/Laws.antt for every call: the order is kept. Assumes nothing.
 use Prim.Native.Nat.{ℕ}
 use mathlib.Core.Path.{_≡_, refl, sym, _∙_}
 use mathlib.Core.Bool.{Bool, true, false, cond}

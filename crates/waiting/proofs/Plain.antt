@@ -1,4 +1,4 @@
--- The smallest head is a machine, so that what it is to promise holds, and can be met. Assumes nothing.
+-- The smallest head is a machine, so it keeps its promise; the example shows that the promise can be met. Assumes nothing.
 use Prim.Native.Nat.{ℕ}
 use mathlib.Core.Path.{refl, sym, _∙_}
 use mathlib.Core.Bool.{or-false}

@@ -1,4 +1,4 @@
--- A line of kinds 1 to n has at most n of them, so that a kind that does not wait finds room in n places. Assumes nothing.
+-- A line of kinds 1 to n has at most n of them, so a kind that does not wait finds room in n places. Assumes nothing.
 use Prim.Native.Nat.{ℕ, zero, suc, _<_, _≤_}
 use mathlib.Core.Path.{_≡_, refl, sym, ap}
 use mathlib.Core.Bool.{false, not, and-false}

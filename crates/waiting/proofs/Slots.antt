@@ -1,5 +1,5 @@
--- A kind's place never rises, and falls by one at each slot that does not send it: so it leaves in its turn, of every machine.
--- Assumes nothing.
+-- A kind's place never rises, and falls by one at each slot that does not
+-- send it, so it leaves in its turn, in every machine. Assumes nothing.
 use Prim.Native.Nat.{ℕ, zero, suc, _+_, _<_, _≤_}
 use mathlib.Core.Path.{_≡_, refl, sym, ap, _∙_}
 use mathlib.Core.Bool.{true, false, cond}

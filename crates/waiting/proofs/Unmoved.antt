@@ -1,4 +1,4 @@
--- What leaves the places as they are, and what moves each up one place. Assumes nothing.
+-- When the places stay as they are, and when each kind moves up one place. Assumes nothing.
 use Prim.Native.Nat.{ℕ, zero, suc, _<_, _≤_}
 use mathlib.Core.Path.{_≡_, refl, sym, ap, _∙_}
 use mathlib.Core.Bool.{Bool, true, false, not, _||_, cond, or-true}
