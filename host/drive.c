@@ -1,13 +1,13 @@
 /*
- * Serves a head to the comparison with the reference: reads calls of 24 bytes from standard input and writes an answer of
- * 24 bytes for each to standard output, until the end of input. Numbers are low byte first, unused bytes 0.
+ * Lets another program drive the linked head, to compare it with the reference: reads calls of 24 bytes from standard input
+ * and writes a 24-byte answer for each to standard output, until the end of input. Numbers are low byte first, unused bytes 0.
  *
  * Call: [0] which
  *   P  power-up: [1] node, [4..8] vendor, [8..12] product, [12..16] revision, [16..20] serial
  *   F  frame received: [1] extended, [2] remote, [3] length, [4..8] identifier, [8..16] bytes
  *   T  tick     S  sample: [4..8] raw     M  missing     ?  slot
  *   K  keep a copy of the head     R  take the kept copy back
- * Answer: [0] the refusal of P, F, S, or of ? whether a frame was sent; [1] its length, [4..8] its identifier, [8..16] its
+ * Answer: [0] for P, F, S the refusal, for ? whether a frame was sent; [1] its length, [4..8] its identifier, [8..16] its
  *   bytes; and after the call [2] the state, [3] bit 0 whether the reading is good, bit 1 whether a frame waits,
  *   [16..20] the position, 0 if there is none.
  */

@@ -1,6 +1,6 @@
 /*
- * Shows that the archive has the layout of the header: what power-up writes and what no call touches, and that every field
- * of the public structs arrives where the other side looks for it. Says what differs, if anything does, and exits 1.
+ * Checks that the archive has the layout of the header: which bytes power-up writes, which bytes no call touches, and that
+ * every field of the public structs arrives where the other side reads it. Prints what differs, if anything does, and exits 1.
  */
 #include "haybleater.h"
 

@@ -1,4 +1,4 @@
-//! The object dictionary: which entries there are, their widths and access.
+//! The object dictionary: its entries, their widths and access. 01, "Entries".
 
 use super::sdo::abort;
 use super::settings::{Which, RAW_STEP};

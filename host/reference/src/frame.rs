@@ -1,4 +1,4 @@
-//! What the host hands over and what the head sends.
+//! What the host passes to the head, and the frames that the head sends.
 
 /// Numbers a call answers with; 0 is no refusal.
 pub mod refusal {

@@ -1,4 +1,4 @@
-//! The head: states, timers, waiting line.
+//! The head: states, timers, waiting line. 01, "States" and "The waiting line".
 
 use super::frame::{refusal, Frame, Identity, Received};
 use super::line::{Kind, Line};

@@ -1,5 +1,6 @@
-//! A CANopen slave for a linear encoder: object dictionary, NMT states,
-//! expedited SDO server, two transmit PDOs, SYNC, heartbeat, emergency.
+//! The reference: a second head, written from 01 alone in plain Rust. It is a
+//! CANopen slave for a linear encoder: object dictionary, NMT states, expedited
+//! SDO server, two transmit PDOs, SYNC, heartbeat, emergency.
 //!
 //! The host owns a [`Head`] and calls it: a frame came in, a millisecond
 //! passed, a sample was taken, the bus has a free slot.

@@ -1,4 +1,4 @@
-//! The SDO server: expedited reads and writes.
+//! The SDO server: expedited reads and writes. 01, "Service requests".
 
 use super::entry::Entry;
 use super::frame::Identity;

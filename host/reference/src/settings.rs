@@ -1,4 +1,4 @@
-//! What "save" keeps: the writable entries and the offset.
+//! The settings that "save" keeps: the writable entries and the offset.
 
 use super::line::Kind;
 

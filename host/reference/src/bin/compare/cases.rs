@@ -1,4 +1,4 @@
-//! Stored cases: text, one call to a line with the answer due.
+//! Stored cases: text files, each line a call and the answer due.
 
 use std::fs;
 use std::io;

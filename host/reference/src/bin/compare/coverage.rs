@@ -1,4 +1,4 @@
-//! What a run has reached. Each item foreseen must be met, and no other.
+//! Counts what the runs reach. They must reach every expected item, and no other.
 
 use std::collections::BTreeMap;
 use std::fmt;

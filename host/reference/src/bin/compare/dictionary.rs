@@ -1,4 +1,4 @@
-//! The entries there are, and frames that ask for them.
+//! The entries of the object dictionary, and frames that ask for them.
 
 use reference::{Head, Kind, Received};
 

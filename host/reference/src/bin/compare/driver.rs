@@ -1,4 +1,4 @@
-//! The program under judgement, at the other end of two pipes.
+//! Runs the program under test and talks to it through two pipes.
 
 use std::io::{self, Read, Write};
 use std::process::{Child, ChildStdout, Command, Stdio};

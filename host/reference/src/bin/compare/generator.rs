@@ -1,4 +1,4 @@
-//! Random calls, planned as short scenarios so that they reach deep.
+//! Random calls, planned as short scenarios so that they reach rare states.
 
 use std::collections::VecDeque;
 

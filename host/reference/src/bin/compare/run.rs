@@ -1,4 +1,4 @@
-//! A run: the same random calls to the reference and to the driver.
+//! A run: sends the same random calls to the reference and to the driver.
 
 use std::io;
 

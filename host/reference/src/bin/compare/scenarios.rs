@@ -1,4 +1,4 @@
-//! What the random calls are made of.
+//! The scenarios from which the generator makes random calls.
 
 use reference::wire::Call;
 use reference::{Head, Identity, Received, State};

@@ -1,4 +1,4 @@
-//! Makes a differing sequence of calls short.
+//! Shortens a sequence of calls on which the two heads differ.
 
 use std::io;
 

@@ -1,4 +1,4 @@
-//! Values for writable entries: good ones, and ones at the ends of what is good.
+//! Values for writable entries: accepted ones, and ones at the limits of what is accepted.
 
 use reference::Head;
 
