@@ -10,11 +10,11 @@ use Rattle.entries.specs.Table.{keyOf}
 use Rattle.dictionary.specs.AbortCodes.{invalidValue, wrongSignature, deviceState}
 use Rattle.dictionary.specs.Accepted.{acceptsIn, isSignature, valueAbortCode, barred, abortCode}
 
--- the code of a value that is accepted or not, of a signature or not
+-- the code of a value, accepted or not, for a signature or not
 abbrev code : Bool → Bool → ℕ
 code a s = cond a 0 (cond s wrongSignature invalidValue)
 
--- the code of one that is barred or not
+-- the code of a write that the state forbids or not
 abbrev state : Bool → ℕ
 state b = cond b deviceState 0
 

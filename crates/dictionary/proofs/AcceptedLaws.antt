@@ -202,7 +202,7 @@ states d k v w =
     inward (inr (inr (inl c))) = inl (inr c)
     inward (inr (inr (inr d′))) = inr d′
 
--- the code of a value that is accepted or not, of a signature or not, barred or not
+-- the code of a value, accepted or not, for a signature or not, forbidden by the state or not
 abbrev code : Bool → Bool → Bool → ℕ
 code a s b = cond (not a) (cond s wrongSignature invalidValue) (cond b deviceState 0)
 

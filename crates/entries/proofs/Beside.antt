@@ -9,7 +9,7 @@ abbrev pub Beside : ℕ → List ℕ → Type 0
 Beside n [] = Unit {0}
 Beside n (k ∷ ks) = Beside n ks × (n ≡ k → ⊥)
 
--- so many keys in turn, the first a
+-- n consecutive keys from a on, the last first
 abbrev turns : ℕ → ℕ → List ℕ
 turns a zero = []
 turns a (suc n) = (a + n) ∷ turns a n

@@ -18,7 +18,7 @@ use Rattle.entries.specs.Laws.{Stands, Finds}
 abbrev Has : List Row → ℕ → ℕ → Type 0
 Has l i k = (k < length l) × (getD l k noRow .0 ≡ i)
 
--- what an answer says of the rows l, of which the first stands at p
+-- what an answer says about the rows l, which start at place p
 abbrev Tells : ℕ → List Row → ℕ → ℕ → Found → Type 0
 Tells p l i j (At q) = (k : ℕ) × (q ≡ p + k) × Has l i k × (getD l k noRow .1 ≡ j)
 Tells p l i j NoSubIndex = (k : ℕ) × Has l i k

@@ -14,7 +14,7 @@ use Rattle.entries.specs.declared.table.Found.{Found}
 use Rattle.entries.specs.declared.table.Found.the-variants.{At, NoSubIndex, NoIndex}
 use Rattle.entries.proofs.Beside.{Beside}
 
--- what is found of the sub-index j among n rows in turn, of which the first stands at p and has the sub-index k
+-- what is found for the sub-index j among n consecutive rows; the first is at place p and has the sub-index k
 abbrev run : ℕ → ℕ → ℕ → ℕ → Found
 run p k zero j = NoSubIndex
 run p k (suc n) j = cond (eqb k j) (At p) (noSub (run (suc p) (suc k) n j))
@@ -38,7 +38,7 @@ run-from p k (suc n) j (suc m) e =
 pub by-sub-index : (p n j : ℕ) → cond (ltb j n) (At (p + j)) NoSubIndex ≡ run p 0 n j
 by-sub-index p n j = run-from p 0 n j j (omega arith)
 
--- the same of four rows, with the sub-indices 0, 1, 2 and 5
+-- the same for four rows with the sub-indices 0, 1, 2 and 5
 abbrev pdo-run : ℕ → ℕ → Found
 pdo-run p j =
     cond (eqb 0 j) (At p)

@@ -9,11 +9,11 @@ use Rattle.steps.specs.declared.slot.Outgoing.{Outgoing}
 use Rattle.lent.specs.Steps.{sentAs}
 use Rattle.outcomes.specs.Outcomes.{Outcomes, LentOutcomes}
 
--- two outcomes whose answer is the one that is due, and of which nothing else is left
+-- two outcomes are equal if both have the answer that is due and leave the same
 same : {A B : Type 0} {due : A} (x y : A × B) → x .1 ≡ y .1 → x .0 ≡ due → y .0 ≡ due → x ≡ y
 same x y l p q = λ i. ((p ∙ sym q) i, l i)
 
--- two outcomes of a lent head: what is answered, what is left of the head, and nothing else
+-- the same for a lent head: the answer and the head that is left
 answered-alike : {C : Type 0} {due : Answer} (x y : ℕ × (Head × C)) → x .1 .1 ≡ y .1 .1 → answered (x .0) (x .1 .0) ≡ due → answered (y .0) (y .1 .0) ≡ due → x ≡ y
 answered-alike x y l p q = λ i. ((p ∙ sym q) i .refusal, ((p ∙ sym q) i .head, l i))
 

@@ -15,7 +15,7 @@ pub mod-below : (z : ℤ) (t : ℕ) → 0 < t → modℤ z t < t
 mod-below (pos n) t h = mod-lt n h
 mod-below (negsuc n) t h = omega arith
 
--- z mod t is z and a multiple of t
+-- z mod t is z plus a multiple of t
 negated : (q t : ℕ) → negℤ (pos (q * t)) ≡ negℤ (pos q) *ℤ pos t
 negated zero t = rw (zero-mul t)
 negated (suc q) t = refl
@@ -35,7 +35,7 @@ mod-multiple (negsuc n) t h =
     let g : suc q * t - suc n ≡ t - suc (n % t) = omega arith in
     (pos (suc q), rw (le-ltb (suc q * t) (suc n) (omega arith)) (ap pos (sym g)))
 
--- a multiple of t more is the same modulo t
+-- adding a multiple of t does not change z mod t
 round-more : (z : ℤ) (t : ℕ) → 0 < t → modℤ (z +ℤ pos t) t ≡ modℤ z t
 round-more (pos n) t h = add-mod-right n t
 round-more (negsuc n) t h = test (ltb t (suc n)) far near

@@ -48,12 +48,12 @@ pub minus-sum : (z : ℤ) (d t : ℕ) → leZ (pos 0) z ≡ false → natAbs z <
 minus-sum (pos n) d t e h = not-below n e
 minus-sum (negsuc n) d t e h = shifted d (suc n) t h
 
--- a less b, as the code has it
+-- a less b, as the code computes it
 difference : (a b : ℕ) → pos a -ℤ pos b ≡ subℕ a b
 difference a zero = rw (le-ltb a 0 zero-le, add-zero a, sub-zero a)
 difference a (suc b) = refl
 
--- both below k: so is their difference, without its sign
+-- if both are below k, so is their difference without its sign
 pub difference-below : (a b k : ℕ) → a < k → b < k → natAbs (pos a -ℤ pos b) < k
 difference-below a b k h g = rw (difference a b) (test (ltb a b) down up)
   where

@@ -28,7 +28,7 @@ last-append : (n : ℕ) (last : Option Frame) (xs ys : List Frame) → lastAfter
 last-append n last [] ys = refl
 last-append n last (f ∷ xs) ys = last-append n _ xs ys
 
--- What counts as announced is what was said; while Initialising, the boot-up frame is to come that begins anew.
+-- Outside Initialising, what counts as announced is what was said last. (In Initialising the boot-up frame, still to come, starts again.)
 abbrev Announced : ℕ → Option Frame → Core → Type 0
 Announced n last c = isInitialising c ≡ false → Said n last (c .announced)
 

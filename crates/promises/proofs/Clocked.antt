@@ -85,7 +85,7 @@ module _ (s : Communication) (k v : ℕ) where
   transmission-kept one e o = rw (type-kept 0x1800 (s .pdo1) (ownKey k) v (own-free (s .pdo1) k v e) o)
   transmission-kept two e o = rw (type-kept 0x1801 (s .pdo2) k v e o)
 
--- a count that begins anew together with the one of the calls
+-- a count that restarts together with the count of the calls
 restarted : (sub5 switched : Bool) (period before t n : ℕ) → (sub5 ≡ false → period ≡ before) → Rest before t n
     → Rest period (cond (sub5 || switched) 0 t) (cond (switched || sub5) 0 n)
 restarted true true period before t n same r = anew period

@@ -72,7 +72,7 @@ module _ (c : Core) (f : List ℕ) (k v : ℕ) where
   show-written one = rw (own-identifier k)
   show-written two = refl
 
--- A write of v ends a condition exactly if it is that of its setting and v does; t: it is.
+-- A write of v ends a condition exactly if the condition depends on the written setting (t says so) and v ends it.
 module _ (c : Core) (t : Bool) (v : ℕ) where
   alert-ends : mayStay c emergency ≡ true
       → not (mayAlert (c .nmt) (cond t v (communication c .emergency)) (c .timers .inhibit) (good c) (c .announced)) ≡ (t && not (on v))

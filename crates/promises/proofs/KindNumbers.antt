@@ -55,7 +55,7 @@ in-order heartbeat = refl
 in-order (tpdo one) = refl
 in-order (tpdo two) = refl
 
--- those that a test picks, as crate waiting has them: by their numbers
+-- the kinds that a test picks, by their numbers as in crate waiting
 pub those-due : (t : Kind → Bool) → those t ≡ thoseDue (λ n. t (kindAt n)) order
 those-due t = due kinds
   where
@@ -78,7 +78,7 @@ pub first-of : (ws : List ℕ) → Kinds places ws → (ws ≡ []) ⊎ ((k : Kin
 first-of [] h = inl refl
 first-of (x ∷ xs) h = let e = number-is x (h .0) (h .1) in inr (kindAt x, sym e, rw (eq-eqb x (number (kindAt x)) (sym e)))
 
--- what holds of a slot that sends nothing and of one that sends a kind, whichever, holds of a slot
+-- a property of a slot that sends nothing, and of one that sends any kind, is a property of every slot
 pub sent-as : (P : Act → Type 0) (n : ℕ) → P idle → ((k : Kind) → P (send k)) → P (sentAs n)
 sent-as P n none sent = over kinds
   where

@@ -56,7 +56,7 @@ had-moment m j t s false n e = both m j (sym (or-false (m && j)) ∙ ap (λ u. m
     none : (t && (s && false)) ≡ false
     none = rw (and-false s) (and-false t)
 
--- where it is no kind's moment but the emergency's
+-- when no kind but the emergency is due
 no-moment : (k : Kind) → alerts k ≡ false → emergencyOnly k ≡ false
 no-moment emergency o = true-false o
 no-moment sdoReply o = refl

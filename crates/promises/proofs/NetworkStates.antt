@@ -25,7 +25,7 @@ module _ (h : Head) (v : Valid h) where
   abbrev After : Act → Nmt
   After a = acted (h .core) a .nmt
 
-  -- what is so of the act is so of the call
+  -- what holds for the act holds for the call
   of-act : (c : Call) → (After (meant h c) ≡ h .core .nmt) → Enters h c (step h c .core .nmt) ⊎ (step h c .core .nmt ≡ h .core .nmt)
   of-act c e = inr (ap (λ x. x .nmt) (core-step h c) ∙ e)
 

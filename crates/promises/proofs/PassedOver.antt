@@ -35,7 +35,7 @@ pub since-append : (anew counts : Head → Call → Bool) (xs : List Call) (h : 
 since-append anew counts [] h ys n = refl
 since-append anew counts (x ∷ xs) h ys n = since-append anew counts xs (step h x) ys (countBy anew counts h x n)
 
--- two counts of which the period leaves the same
+-- two counts with the same remainder modulo the period
 module _ (period : ℕ) where
   abbrev Like : ℕ → ℕ → Type 0
   Like m n = m % period ≡ n % period
@@ -56,7 +56,7 @@ module _ (period : ℕ) where
         like-since cs (step h x) _ _
         (by₂ Like (anew h x) (λ _. refl) (λ _. by₂ Like (counts h x) (λ _. like-next m n e) (λ _. e)))
 
-    -- a call by which the count comes to a multiple, or begins anew
+    -- a call that brings the count to a multiple, or restarts it
     like-anew : (h : Head) (x : Call) (n : ℕ) → counts h x ≡ true → EachOf period n → Like (countBy anew counts h x n) 0
     like-anew h x n c e =
         by (λ m. Like m 0) (anew h x) (λ _. refl) (λ _. rw c (e .turn ∙ sym (zero-mod period)))

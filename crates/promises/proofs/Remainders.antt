@@ -10,7 +10,7 @@ use Rattle.cases.proofs.Cases.{by, test}
 use Rattle.promises.specs.Timers.{counted, completes}
 use Rattle.promises.specs.Moments.{EachOf}
 
--- t is what the period leaves of n
+-- t is the remainder of n modulo the period
 abbrev pub Rest : ℕ → ℕ → ℕ → Type 0
 Rest period t n = 0 < period → t ≡ n % period
 

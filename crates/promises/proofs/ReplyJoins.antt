@@ -58,7 +58,7 @@ withdrawn-alike (x ∷ xs) ks ls h a =
     ∙ ap (λ r. cond (has x ls) r (x ∷ r)) others
     ∙ sym (first-withdrawn x xs ls)
 
--- The reply, and before it the emergency if it is to join: those who do not wait yet stand at the end.
+-- The reply, and before it the emergency if it joins: those that did not wait before stand at the end.
 abbrev joining : Bool → List ℕ
 joining e = cond e (line.emergency ∷ line.sdoReply ∷ []) (line.sdoReply ∷ [])
 

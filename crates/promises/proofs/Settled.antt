@@ -22,7 +22,7 @@ module _ (h : Head) (v : Valid h) where
   abbrev c : Core
   c = h .core
 
-  -- those may be withdrawn of whom it is right where they wait
+  -- a list may be withdrawn if it is right for those of its kinds that wait
   pub withdrawn : (t : Kind → Bool) (d : Core) → ((k : Kind) → mayStay c k ≡ true → t k ≡ not (mayStay d k))
       → withdrawsIn (h .line) (those t) ≡ withdrawsIn (h .line) (goes c d)
   withdrawn t d right = same-taken (v .line) (those t) (goes c d) (λ n e.
@@ -38,7 +38,7 @@ module _ (h : Head) (v : Valid h) where
       ∙ sym (has-those (λ j. mayStay c j && not (mayStay d j)) k)
       ∙ ap (λ m. has m (goes c d)) q)
 
-  -- an emergency that may wait does already
+  -- an emergency that may wait waits already
   pub alerts-already : (ks : List ℕ) → joinsIn (h .line) (cond (isAlerting c) (line.emergency ∷ ks) ks) ≡ joinsIn (h .line) ks
   alerts-already ks =
       by (λ (r : List ℕ). joinsIn (h .line) r ≡ joinsIn (h .line) ks) (isAlerting c)

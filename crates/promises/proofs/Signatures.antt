@@ -30,7 +30,7 @@ use Rattle.promises.proofs.Effects.{told}
 abbrev of : ℕ → Accepted → Row → Accepted
 of k a r = cond (eqb (key r) k) a Nothing
 
--- the entry of key k accepts the signature a: in each row, and in none that is no row
+-- the entry of key k accepts the signature a: for each row of the table, and past its end
 abbrev Signed : ℕ → ℕ → Type 0
 Signed k a =
     (of k (accepted noRow) noRow ≡ of k (Signature a) noRow) × (map (λ r. of k (accepted r) r) table ≡ map (of k (Signature a)) table)

@@ -31,7 +31,7 @@ spoken b =
     (λ _. by (Spoken b) (eqb b 0x82) (λ e. rw e (or-true (eqb b 0x81))) (λ _. tt)))))
 
 module _ (n : ℕ) (h : Head) (f : Received) (q : node (h .core) ≡ n) where
-  -- what a command to this head says, its first byte does
+  -- a command to this head means what its first byte says
   pub commands-so : (t : ℕ → Bool) (k : Command) → Commands h f k → (k ≡ noCommand → ⊥) → (Spoken (byteOf f 0) k → t (byteOf f 0) ≡ true)
       → isCommand n t (receive f) ≡ true
   commands-so t k m some so =

@@ -58,7 +58,7 @@ same-at : {A B C : Type 0} (f : A → C) (g : B → C) (l : List A) (m : List B)
 same-at f g l m a b p e c =
     sym (List·getD-map f l p a) ∙ ap (λ x. getD (map f l) p x) e ∙ ap (λ k. getD k p (g b)) c ∙ List·getD-map g m p b
 
--- what holds at each place holds of each
+-- a property at each place is a property of each element
 all-at : {A : Type 0} (P : A → Type 0) (l : List A) (a : A) → ((k : ℕ) → k < length l → P (getD l k a)) → All P l
 all-at P [] a f = tt
 all-at P (x ∷ xs) a f = (f 0 (omega arith), all-at P xs a (λ k e. f (suc k) (omega (arith, e))))

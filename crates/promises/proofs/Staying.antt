@@ -42,7 +42,7 @@ use Rattle.promises.proofs.Signatures.{save-taken, load-taken, save-onl
 use Rattle.promises.proofs.Starts.{powered-is, saved-is, identity-after}
 
 module _ (d e : Device) (o u : Bool) where
-  -- what an entry reads that tells of neither
+  -- what an entry reads that shows neither samples nor the state
   abbrev of : Device → Bool → Entry → Shown
   of d′ o′ x = cond (has (key (x .row)) telling) Blank (shown x d′ o′)
 

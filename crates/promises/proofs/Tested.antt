@@ -31,7 +31,7 @@ use Rattle.promises.proofs.States.{not-operational}
 use Rattle.promises.proofs.Meant.{commands}
 use Rattle.promises.proofs.Causes.{Cause, cause, requests}
 
--- what of an act counts: what it writes, and whether it is a boot-up, an entry to Operational, a SYNC, a tick
+-- what matters of an act: what it writes, and whether it is a boot-up, an entry to Operational, a SYNC, a tick
 pub record Marks : Type 0 where
   pub effect : Effect
   pub boots : Bool
@@ -146,7 +146,7 @@ is-written h f t = (as-write, λ w. rw (is-request h f .1 (w .3 .requests), w .3
         let d = confirmed-by t (dueTo h f) (u .1) in
         (d .0, d .1, d .2, record { requests = is-request h f .0 (u .0); accepted = d .3 })
 
--- what the tests say of a call, its act says
+-- the tests of a call agree with its act
 pub record Tested (h : Head) (x : Call) (m : Marks) : Type 0 where
   pub written : (t : ℕ → ℕ → Bool) → writes t h x ≡ effectTo t (m .effect)
   pub boots : (isSlot x && isInitialising (h .core)) ≡ m .boots
@@ -155,8 +155,8 @@ pub record Tested (h : Head) (x : Call) (m : Marks) : Type 0 where
   pub beats : (isTick x && not (isInitialising (h .core))) ≡ m .times
   pub ticks : (isTick x && isIn operational (h .core)) ≡ (m .times && isIn operational (h .core))
 
--- What is known of a frame by its tests: none boots and none is a tick, one
--- that is no request writes nothing, and so of an entry and a SYNC.
+-- What the tests tell about a frame: it is no boot-up and no tick; if it is no request
+-- it writes nothing; and the same for an entry and a SYNC.
 record Otherwise (h : Head) (f : Received) (m : Marks) : Type 0 where
   pub unwritten : isRequest h f ≡ false → (t : ℕ → ℕ → Bool) → effectTo t (m .effect) ≡ false
   pub unbooted : m .boots ≡ false

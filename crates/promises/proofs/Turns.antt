@@ -32,7 +32,7 @@ machine =
       Good = Valid;
     }
 
--- what goes does not come: its condition has ended
+-- a kind that goes does not join in the same call: its condition has ended
 module _ (before later : Core) (due : Kind → Bool) (n : ℕ) where
   abbrev k : Kind
   k = kindAt n

@@ -18,14 +18,14 @@ use Rattle.promises.specs.Acts.{Act, acted, momentsOf, goes, comes, sett
 use Rattle.promises.specs.Valid.{waits, Valid}
 use Rattle.promises.proofs.KindNumbers.{has-those, named-those}
 
--- Who may join may stay,
+-- A kind that may join may stay,
 pub join-stay : (c : Core) (k : Kind) → mayJoin c k ≡ true → mayStay c k ≡ true
 join-stay c emergency y = y
 join-stay c sdoReply y = y
 join-stay c heartbeat y = y
 join-stay c (tpdo w) y = y
 
--- and who may not stay may not join.
+-- and a kind that may not stay may not join.
 pub stay-join : (c : Core) (k : Kind) → mayStay c k ≡ false → mayJoin c k ≡ false
 stay-join c k n = test (mayJoin c k) (λ y. true-false (sym (join-stay c k y) ∙ n)) (λ y. y)
 

@@ -52,7 +52,7 @@ module _ (h : Head) (v : Valid h) where
   abbrev canAlert : Bool
   canAlert = free (c .nmt) (communication c .emergency) inhibit
 
-  -- where none goes, and the emergency waits already if it may, the line stays
+  -- if no kind goes, and the emergency waits already if it may, the line stays
   unmoved : (d : Core) → goes c d ≡ [] → isAlerting d ≡ isAlerting c
       → h .line ≡ joinsIn (withdrawsIn (h .line) (goes c d)) (comes emergencyOnly d)
   unmoved d none m =

@@ -117,7 +117,7 @@ module _ (d : Device) (o : Bool) (f : List ℕ) (bytes : AreBytes f) where
         let takes : S.WritesValue d f p = (fitting, not-false _ accepted) in
         by P (barred d (key r) v) (λ e. state-so (p, (takes, e))) (λ e. written-so (key r) v (p, (takes, (e, (refl, refl))))))))))
 
-    -- what holds of each reply where it is due holds of what is due
+    -- a property of each reply in its own case is a property of what is due
     each-reply : P (due d o f)
     each-reply =
         each-way d o f P none-so unknown-so no-index-so no-sub-index-so (λ p h. read-each p h (shownAt d o p) refl)

@@ -128,7 +128,7 @@ four =
       four = λ e. refl;
     }
 
--- a read is nothing else, nor is a write
+-- a read is no other request, and neither is a write
 is-read : (f : List ℕ) → reading f ≡ true → (aborting f ≡ false) × (writing f ≡ false)
 is-read f e = let t = eqb-true (top f) 2 e in (rw t, rw t)
 
@@ -138,7 +138,7 @@ is-write f e = let t = eqb-true (top f) 1 (both (eqb (top f) 1) (eqb (byte f 0 /
 nth : (k : ℕ) {a b : List ℕ} → a ≡ b → getD a k 0 ≡ getD b k 0
 nth k e = ap (λ (l : List ℕ). getD l k 0) e
 
--- data past the entry's length do not alter the value
+-- data past the entry's length do not change the value
 same-cut : (f g : List ℕ) (p : ℕ) → p < length table → firstData (width (rowAt p)) f ≡ firstData (width (rowAt p)) g
     → cutTo (rowAt p .2) (dataOf f) ≡ cutTo (rowAt p .2) (dataOf g)
 same-cut f g =

@@ -83,7 +83,7 @@ module _ (d : Device) (o : Bool) (f : List ℕ) where
     by-found (inl r) (At p) e = let h : ReadsFrom f p = (r, finds f .at p .0 e) in subst P (sym (reads p h)) (read p h)
     by-found (inr w) (At p) e = let h : WritesTo f p = (w, finds f .at p .0 e) in subst P (sym (writes p h)) (written p h)
 
-    -- what holds of each way's end holds of what is due
+    -- a property of the end of each way is a property of what is due
     pub each-way : P (due d o f)
     each-way =
         let top = getD f 0 0 / 32 in

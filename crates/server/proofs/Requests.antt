@@ -46,7 +46,7 @@ module _ (h : Head) (v : Valid h) (live : isLive (h .core) ≡ true) (b : List �
   abbrev c : Core
   c = h .core
 
-  -- where nothing changes that decides who may wait, only the reply joins
+  -- if nothing changes that decides who may wait, only the reply joins
   reply-joins : (d : Core) → goes c d ≡ [] → isAlerting d ≡ isAlerting c → isLive d ≡ true
       → joinIn (h .line) line.sdoReply ≡ joinsIn (withdrawsIn (h .line) (goes c d)) (comes requestMoments d)
   reply-joins d none alert l = rw (none, alert, l) (sym (alerts-already h v (line.sdoReply ∷ [])))
@@ -77,7 +77,7 @@ module _ (h : Head) (v : Valid h) (live : isLive (h .core) ≡ true) (b : List �
       ∙ ap (λ q. settled (after d (timersWritten k (communication c) q (c .timers)))) (sym s)
       ∙ ap (λ e. settled (after e (timersWritten k (communication c) (e .settings .communication) (c .timers)))) (sym w)
 
-  -- no timer begins anew
+  -- no timer restarts
   stands : (k : ℕ) → eqb k 0x1017_00 ≡ false → eqb k 0x1800_05 ≡ false → eqb k 0x6200_00 ≡ false → eqb k 0x1801_05 ≡ false
       → timersWritten k (communication c) (communication c) (c .timers) ≡ c .timers
   stands k beat event1 cycle event2 =

@@ -30,7 +30,7 @@ use Rattle.nmt.specs.Orders.{orderOf}
 use Rattle.steps.specs.declared.hear.Heard.{Heard}
 use Rattle.steps.specs.Hear.{passingBy, orderedBy, syncWay, writeWay, replyingBy, servedBy, requestedBy, unrefusedBy, heardBy}
 
--- a frame of this refusal, heard so, means this act
+-- a frame with this refusal number that is heard in this way means this act
 pub data Means (h : Head) : ℕ → Heard → Act → Type 0 where
   passes : (n : ℕ) → Means h n (passingBy n 0) nothing
   syncs : Means h 0 (passingBy 0 2) sync
@@ -38,7 +38,7 @@ pub data Means (h : Head) : ℕ → Heard → Act → Type 0 where
       → Means h 0 (orderedBy (record { enters = true; state = state g; resets = false; all = false })) (enter g)
   resets : (r : Reset) → Means h 0 (orderedBy (orderOf (h .core .nmt) (toReset r))) (reset r)
   replies : (b : List ℕ) → isLive (h .core) ≡ true → Means h 0 (replyingBy 1 b 0 0) (serve (record { bytes = b; effect = Reply }))
-  -- of a write the value is one that its entry takes
+  -- the value of a write is one that its entry accepts
   writes : (b : List ℕ) (k x : ℕ) → isLive (h .core) ≡ true → Fits (h .core .device .settings .profile) k x
       → Means h 0 (replyingBy (writeWay k) b k x) (serve (record { bytes = b; effect = Write k x }))
 

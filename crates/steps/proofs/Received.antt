@@ -36,7 +36,7 @@ refusal-so (resets r) = refl
 refusal-so (replies b l) = refl
 refusal-so (writes b k x l f) = refl
 
--- where nothing is written, the key is none
+-- if nothing is written the key is 0, which is not that of the preset
 no-preset : (p : ℕ) → 0 ≡ presetKey → 0 < p
 no-preset p e = absurd (omega (arith, e))
 

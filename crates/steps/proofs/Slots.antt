@@ -59,7 +59,7 @@ module _ (h : Head) (v : Valid h) where
   left-has : (j : ℕ) → has j (drop 1 (waiting (h .line))) ≡ (not (eqb k j) && has j (waiting (h .line)))
   left-has j = rw (laws places .first-of (v .line)) (has-drop places j (waiting (h .line)) (v .line .kinds))
 
-  -- behind the boot-up frame nothing waits
+  -- nothing else waits with the boot-up frame
   line-booted : isInitialising c ≡ true
       → joinsIn (withdrawsIn left (goes c (booted c))) (comes emergencyOnly (booted c))
       ≡ bootedOf (communication c .emergency) (good c) .line
@@ -73,7 +73,7 @@ module _ (h : Head) (v : Valid h) where
       in
       rw (none-goes, empty, m)
 
-  -- the emergency that is sent waits no more: its condition's end takes none
+  -- the emergency that was sent no longer waits, so the end of its condition withdraws nothing
   line-announced : eqb k 1 ≡ true → joinsIn (withdrawsIn left (goes c (announcing c))) (comes emergencyOnly (announcing c)) ≡ left
   line-announced e =
       let none-comes : comes emergencyOnly (announcing c) ≡ [] = simp (same, and-false) in

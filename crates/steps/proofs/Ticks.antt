@@ -44,7 +44,7 @@ those-alike t u e = over kinds
     over [] = refl
     over (k ∷ ks) = rw (e k, over ks)
 
--- a moment that is one in Operational only, of a kind that joins in Operational only
+-- a moment in Operational only, for a kind that joins in Operational only
 gated : (o due on good : Bool) → ((o && due) && (o && on && good)) ≡ (due && (o && on && good))
 gated true due on good = refl
 gated false due on good = sym (and-false due)
@@ -96,7 +96,7 @@ module _ (h : Head) (v : Valid h) where
       (sym (none-goes c))
       ∙ ap (act false h) (sym m)
 
-  -- nobody's moment, and the reading is the one last announced: none joins
+  -- no kind is due, and the reading is the one last announced: none joins
   none-joins : (a b d e : Bool)
       → eqb (tickWay (((a || b) || d) || e)) 1 ≡ false
       → (a ≡ false) × (b ≡ false) × (d ≡ false) × (e ≡ false)

@@ -43,7 +43,7 @@ pub says-line : (l : List ℕ) → saysLine (lineOf l) ≡ says l
 unfolding lineOf
 says-line l = test (ltb longest (length l)) (λ e. rw e) (λ e. rw (e, held-line l (ltb-false _ _ e)))
 
--- lines behind the beginning l of the first
+-- these lines, with the bytes l in front of the first of them
 glue : List ℕ → List (List ℕ) → List (List ℕ)
 glue l [] = cond (eqb (length l) 0) [] (l ∷ [])
 glue l (m ∷ ms) = (l ++ m) ∷ ms

@@ -12,7 +12,7 @@ use Rattle.cases.proofs.Cases.{both}
 use borrow.Author.Tests.{ltb-true, leb-true}
 use Rattle.text.specs.Grammar.{digitOf, digits, value, valueFrom, isNumber}
 
--- each digit more is within the next power
+-- with one digit more the number is below the next power
 pub digit-step : (base n v d : ℕ) → v < base ^ n → d < base → v * base + d < base ^ suc n
 digit-step base n v d h k =
     let p : suc v * base ≤ base ^ n * base = mul-le-mul h (omega arith) in

@@ -44,7 +44,7 @@ take-at-most m n l h =
     let k : m ≤ n = ltb-false _ _ e in
     take-all m l (omega arith) ∙ sym (take-all n l (omega arith)))
 
--- so many can be lent, and they are as many
+-- n elements can be lent, and these are n
 pub share : {n : ℕ} (m k : ℕ) (l : List ℕ) → n ≡ atMost m k → length l ≡ m → n ≤ length l
 share m k l e h = omega (arith, at-most m k)
 

@@ -19,7 +19,7 @@ use Rattle.promises.specs.Acts.{sync, timing, syncMoments, goes, comes, settled
 use Rattle.promises.specs.Valid.{Valid}
 use Rattle.tpdo.specs.Sync.{joinsAt, syncedBy}
 
--- a PDO's moment, gated by what it is gated by anyway
+-- a test that the second condition makes anyway can be added to the first
 gated : (s c o n g : Bool) → ((s && c) && ((o && n) && g)) ≡ (((n && s) && c) && ((o && n) && g))
 gated s c o true g = refl
 gated s c o false g = simp and-false
@@ -51,7 +51,7 @@ module _ (h : Head) (v : Valid h) where
   abbrev pdos : List ℕ
   pdos = cond (joins one) (line.tpdo1 ∷ cond (joins two) (line.tpdo2 ∷ []) []) (cond (joins two) (line.tpdo2 ∷ []) [])
 
-  -- an emergency that may wait does already
+  -- an emergency that may wait waits already
   emergency-waits : joinsIn (h .line) (cond (isAlerting c) (line.emergency ∷ pdos) pdos) ≡ joinsIn (h .line) pdos
   emergency-waits =
       by (λ (ks : List ℕ). joinsIn (h .line) ks ≡ joinsIn (h .line) pdos) (isAlerting c)

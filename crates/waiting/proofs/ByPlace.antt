@@ -25,7 +25,7 @@ five-places (a ∷ b ∷ d ∷ f ∷ []) e = absurd (omega (arith, e))
 five-places (a ∷ b ∷ d ∷ f ∷ g ∷ []) e = refl
 five-places (a ∷ b ∷ d ∷ f ∷ g ∷ i ∷ l) e = absurd (omega (arith, e))
 
--- a join by one test a place: an empty place takes the kind, and so does its own
+-- a join with one test for each place: an empty place takes the kind, and so does the kind's own place
 abbrev pub joinsAt : List ℕ → ℕ → List ℕ
 joinsAt [] k = []
 joinsAt (x ∷ xs) k = cond (eqb x 0 || eqb x k) (k ∷ xs) (x ∷ joinsAt xs k)
@@ -48,7 +48,7 @@ take-pad zero l = refl
 take-pad (suc n) [] = ap {B = List ℕ} (λ r. 0 ∷ r) (take-pad n [])
 take-pad (suc n) (x ∷ l) = ap {B = List ℕ} (λ r. x ∷ r) (take-pad n l)
 
--- a withdrawal from the last place to the first: one that stays stands in front of what stays behind it
+-- a withdrawal from the last place to the first: a kind that stays comes before those that stay behind it
 abbrev pub staysOf : List ℕ → ℕ → List ℕ
 staysOf [] k = pad places []
 staysOf (x ∷ xs) k = cond (eqb x k) (staysOf xs k) (x ∷ take 4 (staysOf xs k))

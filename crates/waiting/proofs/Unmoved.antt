@@ -39,7 +39,7 @@ withdraws-first x xs (k ∷ ks) =
     (λ e. rw (e, ← eqb-true x k e, eq-eqb x x refl))
     (λ e. rw (e, ne-eqb k x (λ q. eqb-false x k e (sym q))) (withdraws-first x (withdraw xs k) ks))
 
--- two withdrawals do the same that differ in none that waits
+-- two withdrawals do the same if they agree on the kinds that wait
 withdraws-same : (ws ks js : List ℕ) → ((k : ℕ) → has k ws ≡ true → has k ks ≡ has k js) → withdraws ws ks ≡ withdraws ws js
 withdraws-same [] ks js f = none ks ∙ sym (none js)
   where
@@ -76,7 +76,7 @@ only-one n k (x ∷ y ∷ ws) h f =
     let m : (eqb y x || has x ws) ≡ true = rw (e, g, eq-eqb k k refl) in
     true-false (sym m ∙ h .2)
 
--- where all go but one kind, it stands alone, if it waited
+-- if all kinds but one go, that one stands alone, if it waited
 pub stays-alone : {n : ℕ} {l ws : List ℕ} → Holds n l ws → (k : ℕ) (ks : List ℕ) → 0 < k → has k ks ≡ false
     → ((j : ℕ) → 0 < j → j ≤ n → has j ks ≡ false → j ≡ k) → withdrawsIn l ks ≡ joinsIn (pad n []) (ifDue (has k l) k)
 stays-alone {n} {l} {ws} h k ks pos stays others =

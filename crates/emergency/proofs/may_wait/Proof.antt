@@ -1,4 +1,4 @@
--- `emergency::may` meets its contract, by its tests.
+-- `emergency::may_wait` meets its contract, by its tests.
 use borrow.Author.Needs.{needs}
 use Rattle.emergency.proofs.may_wait.Statement.{statement}
 use Rattle.emergency.proofs.may_wait.Tie as tie

@@ -1,4 +1,4 @@
--- `heartbeat::may` meets its contract, by its tests.
+-- `heartbeat::may_wait` meets its contract, by its tests.
 use borrow.Author.Needs.{needs}
 use Rattle.heartbeat.proofs.may_wait.Statement.{statement}
 use Rattle.heartbeat.proofs.may_wait.Tie as tie

@@ -1,4 +1,4 @@
--- `tpdo::may` meets its contract, by its tests.
+-- `tpdo::may_join` meets its contract, by its tests.
 use borrow.Author.Needs.{needs}
 use Rattle.tpdo.proofs.may_join.Statement.{statement}
 use Rattle.tpdo.proofs.may_join.Tie as tie
