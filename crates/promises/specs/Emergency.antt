@@ -57,7 +57,7 @@ pub record Emergency (p : PowerUp) (cs : List Call) : Type 0 where
   -- Sending starts the inhibit time: for 1015h = v ..
   pub inhibits : let h = after (powered p) cs in Alerts (nodeOf p) h
       → (v : ℕ) × Reads h 0x1015 0 v × Inhibits v (step h slot .core .timers .inhibit)
-  -- Power-up: "good" counted as announced. Apart from that only a reset changes it.
+  -- Power-up: "good" counted as announced. Apart from sending, only a reset changes it.
   pub good-at-first : powered p .core .announced ≡ true
   pub announced : let h = after (powered p) cs in (c : Call)
       → step h c .core .announced ≡ announcedBy (nodeOf p) h (lastSample Missing cs) c (h .core .announced)
