@@ -126,11 +126,28 @@ static inline bool haybleater_is_position(uint32_t identifier)
 }
 
 /*
+ * How the archive has the calls: 0 as they are declared here, which is C's way on x86-64 Linux and made by `rt staticlib lent`; 1 by
+ * pointer, which is the same on every processor and made by host/cross. The header and an archive that differ do not link.
+ */
+#ifndef HAYBLEATER_BY_POINTER
+#if defined(__x86_64__) && defined(__linux__) && !defined(__ILP32__)
+#define HAYBLEATER_BY_POINTER 0
+#else
+#define HAYBLEATER_BY_POINTER 1
+#endif
+#endif
+#if HAYBLEATER_BY_POINTER
+#define HAYBLEATER_CALL static inline
+#else
+#define HAYBLEATER_CALL
+#endif
+
+/*
  * Makes a head: in Initialising, with factory settings, the saved set equal to them, the reading missing, and the boot-up
  * frame waiting. The memory may hold anything before: it is not read.
  * Refuses a node number not 1..127 with HAYBLEATER_BAD_NODE; a head is made all the same, of node 1 with identity numbers 0.
  */
-uint8_t haybleater_power_up(haybleater_head *head, haybleater_setup setup);
+HAYBLEATER_CALL uint8_t haybleater_power_up(haybleater_head *head, haybleater_setup setup);
 
 /*
  * A frame was received. Refuses with HAYBLEATER_BAD_IDENTIFIER or HAYBLEATER_BAD_LENGTH, in every state, what no bus can
@@ -138,41 +155,122 @@ uint8_t haybleater_power_up(haybleater_head *head, haybleater_setup setup);
  * others every 29-bit and every remote frame, another node's, one of another length, a request in Stopped or while a reply
  * waits, and in Initialising all.
  */
-uint8_t haybleater_receive(haybleater_head *head, haybleater_received frame);
+HAYBLEATER_CALL uint8_t haybleater_receive(haybleater_head *head, haybleater_received frame);
 
 /* A millisecond has passed. */
-void haybleater_tick(haybleater_head *head);
+HAYBLEATER_CALL void haybleater_tick(haybleater_head *head);
 
 /*
  * The sensor gave a raw position, in steps of 5,000 nm. Refuses one above 1,048,575 with HAYBLEATER_BAD_SAMPLE: the head
  * is unchanged, so the sample before still holds. A host to which such a number means "off the tape" calls haybleater_missing,
  * and aborts a pending position frame before.
  */
-uint8_t haybleater_sample(haybleater_head *head, uint32_t raw);
+HAYBLEATER_CALL uint8_t haybleater_sample(haybleater_head *head, uint32_t raw);
 
 /*
  * The sensor gave no position. Position frames that wait in the head are withdrawn; the host aborts the one that is pending
  * in its CAN controller before this call.
  */
-void haybleater_missing(haybleater_head *head);
+HAYBLEATER_CALL void haybleater_missing(haybleater_head *head);
 
 /*
  * A frame can be sent: answers the first that waits and takes it from the waiting line, or none exactly if none waits.
  * To be called only when no frame of the head is pending in the CAN controller.
  */
-haybleater_outgoing haybleater_slot(haybleater_head *head);
+HAYBLEATER_CALL haybleater_outgoing haybleater_slot(haybleater_head *head);
 
 /* The NMT state, one of the four codes above. */
-uint8_t haybleater_state(const haybleater_head *head);
+HAYBLEATER_CALL uint8_t haybleater_state(const haybleater_head *head);
 
 /* Whether the present reading is good: the last sample that was not refused was a raw position. */
-bool haybleater_good(const haybleater_head *head);
+HAYBLEATER_CALL bool haybleater_good(const haybleater_head *head);
 
 /* The position that entry 6004h shows: known exactly while the reading is good. */
-haybleater_located haybleater_position(const haybleater_head *head);
+HAYBLEATER_CALL haybleater_located haybleater_position(const haybleater_head *head);
 
 /* Whether a frame waits: whether the next slot answers one. */
-bool haybleater_waits(const haybleater_head *head);
+HAYBLEATER_CALL bool haybleater_waits(const haybleater_head *head);
+
+#if HAYBLEATER_BY_POINTER
+/* The exports of an archive of host/cross. Each pointer is to a whole, aligned object of its type, and no two overlap. */
+void haybleater_at_power_up(haybleater_head *head, const haybleater_setup *setup, uint8_t *refusal);
+void haybleater_at_receive(haybleater_head *head, const haybleater_received *frame, uint8_t *refusal);
+void haybleater_at_tick(haybleater_head *head);
+void haybleater_at_sample(haybleater_head *head, const uint32_t *raw, uint8_t *refusal);
+void haybleater_at_missing(haybleater_head *head);
+void haybleater_at_slot(haybleater_head *head, haybleater_outgoing *outgoing);
+void haybleater_at_state(const haybleater_head *head, uint8_t *state);
+void haybleater_at_good(const haybleater_head *head, bool *good);
+void haybleater_at_position(const haybleater_head *head, haybleater_located *located);
+void haybleater_at_waits(const haybleater_head *head, bool *waits);
+
+static inline uint8_t haybleater_power_up(haybleater_head *head, haybleater_setup setup)
+{
+    uint8_t refusal;
+    haybleater_at_power_up(head, &setup, &refusal);
+    return refusal;
+}
+
+static inline uint8_t haybleater_receive(haybleater_head *head, haybleater_received frame)
+{
+    uint8_t refusal;
+    haybleater_at_receive(head, &frame, &refusal);
+    return refusal;
+}
+
+static inline void haybleater_tick(haybleater_head *head)
+{
+    haybleater_at_tick(head);
+}
+
+static inline uint8_t haybleater_sample(haybleater_head *head, uint32_t raw)
+{
+    uint8_t refusal;
+    haybleater_at_sample(head, &raw, &refusal);
+    return refusal;
+}
+
+static inline void haybleater_missing(haybleater_head *head)
+{
+    haybleater_at_missing(head);
+}
+
+static inline haybleater_outgoing haybleater_slot(haybleater_head *head)
+{
+    haybleater_outgoing outgoing;
+    haybleater_at_slot(head, &outgoing);
+    return outgoing;
+}
+
+static inline uint8_t haybleater_state(const haybleater_head *head)
+{
+    uint8_t state;
+    haybleater_at_state(head, &state);
+    return state;
+}
+
+static inline bool haybleater_good(const haybleater_head *head)
+{
+    bool good;
+    haybleater_at_good(head, &good);
+    return good;
+}
+
+static inline haybleater_located haybleater_position(const haybleater_head *head)
+{
+    haybleater_located located;
+    haybleater_at_position(head, &located);
+    return located;
+}
+
+static inline bool haybleater_waits(const haybleater_head *head)
+{
+    bool waits;
+    haybleater_at_waits(head, &waits);
+    return waits;
+}
+#endif
+#undef HAYBLEATER_CALL
 
 /* The layout that the archive was compiled for; host/layout.c shows that it has it. */
 #if defined(__cplusplus) && __cplusplus >= 201103L
