@@ -72,12 +72,11 @@ def main(arguments):
             image = file.read()
         kind, sections = sections_of(image)
         exports, needs = symbols(image, kind, sections)
+        print("text {}, data {}, bss {}".format(*sizes(sections)), " ".join(["exports", *exports]),
+              " ".join(["needs", *(needs or ["nothing"])]), sep="\n", flush=True)
     except (OSError, NotAnObject, IndexError, ValueError, struct.error) as problem:
         print(f"object.py: {arguments[0]}: {problem}", file=sys.stderr)
         return 1
-    print("text {}, data {}, bss {}".format(*sizes(sections)))
-    print("exports", *exports)
-    print("needs", *(needs or ["nothing"]))
     return 0
 
 
