@@ -126,8 +126,9 @@ static inline bool haybleater_is_position(uint32_t identifier)
 }
 
 /*
- * How the archive has the calls: 0 as they are declared here, which is C's way on x86-64 Linux and made by `rt staticlib lent`; 1 by
- * pointer, which is the same on every processor and made by host/cross. The header and an archive that differ do not link.
+ * Which archive is linked. 0: that of `rt staticlib lent`, for x86-64 Linux, which has the calls as they are declared below. 1: one of
+ * host/cross, for another processor; its exports take and answer by pointer only, and the calls are small functions over them, which
+ * the host's compiler compiles. With the other number a program does not link.
  */
 #ifndef HAYBLEATER_BY_POINTER
 #if defined(__x86_64__) && defined(__linux__) && !defined(__ILP32__)

@@ -1,7 +1,7 @@
 /*
  * What a call costs on an emulated Cortex-M4. A line has the call's name as in docs/BENCHMARKS.md, the export, its instructions and the bytes
  * of stack that it uses below its caller, both with the library's functions that it calls. Exits 1 if a call leaves another number
- * of frames than it should: the head before it is then not what the line says.
+ * of frames than it should, for the head before it is then not what the line says, and if nine instructions are not counted as nine.
  *
  * To be run with -icount shift=0: an instruction then takes 1 ns, and SysTick counts at 25 MHz.
  */
@@ -14,7 +14,7 @@
 #define SYST_RVR (*(volatile uint32_t *)0xE000E014u)
 #define SYST_CVR (*(volatile uint32_t *)0xE000E018u)
 enum { SYST_ON = 0x5, SYST_MOST = 0xFFFFFF };
-enum { COPIES = 400, INSTRUCTIONS_OF_A_COUNT = 40, RETURN = 1 };
+enum { COPIES = 400, INSTRUCTIONS_OF_A_COUNT = 40, RETURN = 1, NINE = 9 };
 enum { DEPTH = 4096, PAINT = 0xA5 };
 
 /* An export, whatever it takes: as Arm passes arguments, a function may take fewer than it is given. */
@@ -146,6 +146,8 @@ static haybleater_head copies[COPIES];
 
 static uint32_t pass(export *call, const haybleater_head *before, void *second)
 {
+    export *volatile unknown = call; /* to the compiler, which would leave out a call that does nothing */
+    call = unknown;
     for (unsigned i = 0; i < COPIES; i++)
         copies[i] = *before;
     uint32_t from = SYST_CVR;
@@ -164,6 +166,10 @@ static uint32_t instructions(export *call, const haybleater_head *before, void *
     uint32_t empty = pass(nothing, before, second), counts = pass(call, before, second) - empty;
     return (counts * INSTRUCTIONS_OF_A_COUNT + COPIES / 2) / COPIES + RETURN;
 }
+
+/* Nine instructions. */
+export nine;
+__asm__(".text\n .thumb_func\nnine:\n .rept 8\n nop\n .endr\n bx lr\n");
 
 /* The bytes below the stack pointer at the call that no longer hold the paint. */
 static uint32_t stack(export *call, haybleater_head head, void *second)
@@ -199,6 +205,10 @@ int main(void)
     SYST_CVR = 0;
     SYST_CSR = SYST_ON;
     prepare();
+    if (instructions(nine, &operational, NULL) != NINE) {
+        printf("nine instructions are not counted as nine: is it run with -icount shift=0?\n");
+        return 1;
+    }
     for (size_t i = 0; i < sizeof rows / sizeof rows[0]; i++) {
         unsigned sends = frames(rows[i].call, *rows[i].before, rows[i].second);
         if (sends != rows[i].frames) {
