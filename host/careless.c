@@ -1,6 +1,6 @@
 /*
- * A host that does not do its duty, for host/check to compare with: it fills the mailboxes of the CAN controller and lets
- * them be when the tape is lost. On the model board it sends positions in a gap. Not to be copied.
+ * A host that neglects its duties: it fills all mailboxes of the CAN controller and does not abort the frames in them when the
+ * tape is lost. host/check shows that it sends positions in a gap. Do not copy it.
  */
 #include "board.h"
 
