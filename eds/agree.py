@@ -9,12 +9,15 @@ NODES = (1, 127)
 NO_SUCH_INDEX, NO_SUCH_SUB_INDEX = 0x06020000, 0x06090011
 READ_ONLY, BAD_VALUE, BAD_SIGNATURE = 0x06010002, 0x06090030, 0x08000020
 BAD_STATE, BLANK = 0x08000022, 0x08000024
+ABORT_CODES = {NO_SUCH_INDEX, NO_SUCH_SUB_INDEX, READ_ONLY, BAD_VALUE, BAD_SIGNATURE, BAD_STATE, BLANK}
 
-# 01: "settings (rw entries but 1003, 1010, 1011 ..)": no download writes these, bit 0 of ObjFlags.
-COMMANDS = {0x1003_00, 0x1010_01, 0x1011_01}
+# A write of these acts at once: it empties the list, saves, loads, or makes the present place read the number.
+# No download writes them, bit 0 of ObjFlags.
+COMMANDS = (0x1003_00, 0x1010_01, 0x1011_01, 0x6003_00)
 REFUSE_DOWNLOAD = 1
-# They read 1 and are written with a signature, so they have no limits.
 SIGNATURES = {0x1010_01, 0x1011_01}
+# CiA 306's limits are those of the value. These read a value that a write does not accept, so they have no limits.
+WITHOUT_LIMITS = {0x1003_00, *SIGNATURES}
 # ARRAY by CiA 301 and CiA 406; other objects with sub-indices are a RECORD.
 ARRAYS = {0x1003, 0x1010, 0x1011, 0x6005}
 MAPPINGS = range(0x1A00, 0x1C00)
@@ -31,7 +34,9 @@ CONDITIONS = {
 SAMPLE = ("sample", 100)
 RANGE, STEP, PRESET = ("write", 0x6002_00, 4, 1000), ("write", 0x6005_01, 4, 10_000), ("write", 0x6003_00, 4, 40)
 IN_ORDER = (SCALING_ON, RANGE, STEP, SAMPLE, PRESET)
-READ_PRESET, READ_OFFSET = ("read", 0x6003_00), ("read", 0x6509_00)
+READ_PRESET, READ_POSITION, READ_OFFSET = ("read", 0x6003_00), ("read", 0x6004_00), ("read", 0x6509_00)
+TAPE, DEFAULT_PRESET = ("sample", 20_000), ("write", 0x6003_00, 4, 0)
+FACTORY_RANGE = ("write", 0x6002_00, 4, 1_048_576)
 
 TABLE_LINE = re.compile(r" +entry 0x([0-9A-F]{4}) ([0-9]+) (U8|U16|U32|S32) (ro|rw) .*")
 
@@ -39,13 +44,19 @@ TABLE_LINE = re.compile(r" +entry 0x([0-9A-F]{4}) ([0-9]+) (U8|U16|U32|S32) (ro|
 def table(entries, specification):
     """The lines of the proved table have index, sub-index, type and access of the data sheet's entries."""
     lines = [line for line in specification.splitlines() if line.lstrip().startswith("entry 0x")]
+    if not lines:
+        yield "the proved table has no line of an entry"
+        return
     proved = {}
     for line in lines:
         found = TABLE_LINE.fullmatch(line)
         if found is None:
             yield f"a line of the proved table cannot be read: {line.strip()}"
             continue
-        proved[int(found[1], 16) << 8 | int(found[2])] = (found[3], found[4])
+        key = int(found[1], 16) << 8 | int(found[2])
+        if key in proved:
+            yield f"{name(key)} stands twice in the proved table"
+        proved[key] = (found[3], found[4])
     listed = {entry.key: (entry.type, entry.access) for entry in entries}
     for key in sorted(proved.keys() | listed.keys()):
         if proved.get(key) != listed.get(key):
@@ -117,13 +128,13 @@ def flags(entries):
     """A download leaves the commands out, and nothing else."""
     for entry in entries:
         if entry.flags != (REFUSE_DOWNLOAD if entry.key in COMMANDS else 0):
-            yield f"{name(entry.key)}: ObjFlags is 1 of 1003-0, 1010-1, 1011-1 alone"
+            yield f"{name(entry.key)}: ObjFlags is 1 of {', '.join(map(name, COMMANDS))} alone"
 
 
 def limits(entries, comments):
-    """A rw entry has limits, the lowest and the highest number that any node accepts; ro entries and signatures have none."""
+    """A rw entry has limits, the lowest and the highest number that any node accepts; ro entries and some others have none."""
     for entry in entries:
-        limited = entry.access == "rw" and entry.key not in SIGNATURES
+        limited = entry.access == "rw" and entry.key not in WITHOUT_LIMITS
         if (entry.low is None) == limited or (entry.high is None) == limited:
             yield f"{name(entry.key)} needs {'both limits' if limited else 'no limits'}"
         elif entry.access == "rw":
@@ -190,13 +201,24 @@ def sentences(node):
         "While a PDO is on, its sub1 still accepts the number that it holds, and numbers with bit 31 set, which switch it off.": [
             trial for key, number in identifiers
             for trial in (((("write", key, 4, number),), 0), ((("write", key, 4, number), ("read", key)), number))],
-        "The default of 6002 is above its limit: 1048576 holds while scaling is off, and a write of 6000 with bit 2 clear brings it back.": [
+        "The default of 6002 is above its limit and cannot be written: 1048576 holds while scaling is off, "
+        "and a write of 6000 with bit 2 clear brings it back.": [
+            ((FACTORY_RANGE,), BAD_VALUE),
+            ((SCALING_ON, FACTORY_RANGE), BAD_VALUE),
             ((SCALING_ON, ("read", 0x6002_00)), 1_000_000),
             ((SCALING_ON, RANGE, ("write", 0x6000_00, 2, 0), ("read", 0x6002_00)), 1_048_576)],
         "Write 6000 first, then 6002 and 6005sub1, then 6003: each write of the first three sets 6003 and 6509 to 0.": [
             ((*IN_ORDER, READ_PRESET), 40),
             ((*IN_ORDER, READ_OFFSET), 0xFFFF_FFF6),
             *(((*IN_ORDER, again, read), 0) for again in (SCALING_ON, RANGE, STEP) for read in (READ_PRESET, READ_OFFSET))],
+        "A download in rising order of the indices loses the preset: 6005sub1 comes after 6003 and sets it to 0.": [
+            ((SCALING_ON, RANGE, SAMPLE, PRESET, READ_PRESET), 40),
+            ((SCALING_ON, RANGE, SAMPLE, PRESET, STEP, READ_PRESET), 0)],
+        "6003 is a command: while the reading is good, a write makes the present place read the number. That holds for its default 0, too.": [
+            ((TAPE, READ_POSITION), 20_000),
+            ((TAPE, PRESET, READ_POSITION), 40),
+            ((TAPE, DEFAULT_PRESET, READ_POSITION), 0),
+            ((TAPE, DEFAULT_PRESET, READ_OFFSET), 0xFFFF_B1E0)],
         "6200 is 1800sub5 under a second index: a write of one changes both.": [
             ((("write", 0x6200_00, 2, 7), ("read", 0x1800_05)), 7),
             ((("write", 0x1800_05, 2, 7), ("read", 0x6200_00)), 7)],
@@ -210,8 +232,16 @@ def facts(comments, head, node):
             yield f"[Comments] do not say: {sentence}"
         replies = head.replies(node, [trial for trial, _ in trials])
         for (trial, due), reply in zip(trials, replies):
-            if number_of(reply) != due:
+            if not carries(reply, trial[-1], due):
                 yield f"node {node} answers {reply.hex(' ')} to {trial[-1][0]} {name(trial[-1][1])}, against: {sentence}"
+
+
+def carries(reply, step, due):
+    """The reply to a step carries the number that is due, and is of the kind for it."""
+    if due in ABORT_CODES:
+        return abort_code(reply) == due
+    kind = reply[0] in VALUE if step[0] == "read" else reply[0] == WRITTEN
+    return kind and number_of(reply) == due
 
 
 def mapping(entries, head, node):

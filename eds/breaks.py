@@ -1,5 +1,18 @@
 """Breaks that the check has to refuse, each with words of the line that refuses it."""
 
+# What happens to the bytes of the whole file, how, words of the refusal
+FILE = [
+    ("all is gone", lambda text: "", "the file is empty"),
+    ("blank lines alone", lambda text: "\r\n\r\n", "the file is empty"),
+    ("LF everywhere", lambda text: text.replace("\r\n", "\n"), "the lines end in LF; write CR LF (unix2dos)"),
+    ("LF in lines 1 and 2", lambda text: text.replace("\r\n", "\n", 2), "line 1 does not end in CR LF"),
+    ("CR everywhere", lambda text: text.replace("\r\n", "\r"), "line 1 does not end in CR LF"),
+    ("a last line without an end", lambda text: "\r\n" * 3 + "[FileInfo]", "line 4 does not end in CR LF"),
+    ("a long line", lambda text: "\r\n" + "[" + "A" * 254 + "]\r\n", "line 2 is longer than 255 bytes"),
+    ("a letter in line 5", lambda text: text.replace("EDSVersion", "EDSVersi\xf6n", 1), "line 5 has a byte that is not ASCII"),
+    ("a byte order mark", lambda text: "\xef\xbb\xbf" + text, "line 1 has a byte that is not ASCII"),
+]
+
 # An entry that the head has not
 VARIABLE = "ObjectType=0x7\nDataType=0x0006\nAccessType=ro\nDefaultValue=0\nPDOMapping=0"
 
@@ -15,8 +28,8 @@ SHEET = [
     ("DeviceInfo", "LSS_Supported=0", "LSS_Supported=1", "LSS_Supported: 1"),
     ("DeviceInfo", "LSS_Supported=0", "LSS_Supported=0\nCompactPDO=0", "not used: [DeviceInfo] CompactPDO"),
     ("DummyUsage", "Dummy0005=0", "Dummy0005=1", "[DummyUsage]: 1"),
-    ("Comments", "Lines=24", "Lines=23", "not used: [Comments] Line24"),
-    ("Comments", "Lines=24", "Lines=25", "[Comments] has no Line25"),
+    ("Comments", "Lines=27", "Lines=26", "not used: [Comments] Line27"),
+    ("Comments", "Lines=27", "Lines=28", "[Comments] has no Line28"),
     ("Comments", "and $NODEID+0x80000080", "and $NODEID+0x80000081", "1014-0: the limits are not the ends"),
     ("Comments", "0x181..0x57F", "0x181..0x580", "1800-1: node 1 answers a write of 0x580"),
     ("Comments", "accept 1..240,", "accept 1..241,", "1801-2: node 127 answers a write of 0xf1"),
@@ -25,11 +38,16 @@ SHEET = [
     ("Comments", "accepts 0x65766173", "accepts 0x65766174", "1010-1: node 1 answers a write of 0x65766174"),
     ("Comments", "1010sub1 accepts 0x65766173.", "1010sub1 accepts one number", "neither limits nor [Comments] say"),
     ("Comments", "1011sub1 accepts", "1010sub1 accepts", "say two things of 1010sub1"),
+    ("Comments", "1003sub0 accepts 0.", "1003sub0 accepts 0..4.", "1003-0: node 1 answers a write of 0x4"),
+    ("Comments", "1003sub0 accepts 0.", "1003sub0 takes 0 alone", "neither limits nor [Comments] say what 1003sub0"),
     ("Comments", "6002, 6005sub1 can be", "6002 can be", "6005-1: node 1 answers a write of"),
     ("Comments", "6002, 6005sub1 can be", "1017, 6002, 6005sub1 can be", "1017-0: the comments on its state"),
     ("Comments", "6003 can be", "6004 can be", "speak of writes to 6004"),
     ("Comments", "the reading is good", "the tape is there", "no known state"),
     ("Comments", "changes both", "changes one", "[Comments] do not say: 6200"),
+    ("Comments", "and cannot be written", "and can be written", "[Comments] do not say: The default of 6002"),
+    ("Comments", "loses the preset", "keeps the preset", "[Comments] do not say: A download in rising order"),
+    ("Comments", "6003 is a command", "6003 is a setting", "[Comments] do not say: 6003 is a command"),
     ("MandatoryObjects", "3=0x1018", "3=0x1017", "[MandatoryObjects] is not"),
     ("OptionalObjects", "2=0x1005\n3=0x1010", "2=0x1010\n3=0x1005", "not in rising order"),
     ("OptionalObjects", "SupportedObjects=22", "SupportedObjects=21", "not used: [6509]"),
@@ -40,6 +58,7 @@ SHEET = [
     ("1000", "DefaultValue=0x00080196", "DefaultValue=0x00020196", "1000-0: DefaultValue"),
     ("1000", "ParameterName=Device type", "ParameterName=Error register", "two objects have one name"),
     ("1003sub0", "ObjFlags=0x1\n", "", "1003-0: ObjFlags"),
+    ("1003sub0", "PDOMapping=0", "LowLimit=0\nHighLimit=0\nPDOMapping=0", "1003-0 needs no limits"),
     ("1003sub1", "PDOMapping=0", "LowLimit=0\nHighLimit=0\nPDOMapping=0", "1003-1 needs no limits"),
     ("1003sub1", "PDOMapping=0", "DefaultValue=0\nPDOMapping=0", "1003-1 has no DefaultValue"),
     ("1005", "AccessType=ro", "AccessType=rw", "1005-0: U32 rw in the data sheet"),
@@ -63,12 +82,13 @@ SHEET = [
     ("6002", "HighLimit=1000000", "HighLimit=999999", "6002-0: node 1 answers a write of 0xf4240"),
     ("6003", "HighLimit=1048575", "HighLimit=1048576", "6003-0: node 1 answers a write of 0x100000"),
     ("6003", "PDOMapping=0", "PDOMapping=1", "PDOMapping is not 1"),
+    ("6003", "ObjFlags=0x1\n", "", "6003-0: ObjFlags"),
+    ("6000", "PDOMapping=0", "PDOMapping=0\nObjFlags=0x1", "6000-0: ObjFlags"),
     ("6004", "PDOMapping=1", "PDOMapping=0", "PDOMapping is not 1"),
     ("6004", "PDOMapping=1", "DefaultValue=0\nPDOMapping=1", "6004-0 has no DefaultValue"),
     ("6004", "AccessType=ro", "AccessType=ro\nAccessType=ro", "twice in the file: [6004] AccessType"),
     ("6004", "PDOMapping=1", "PDOMapping=1\n\n[6003]", "twice in the file: [6003]"),
     ("6500", "PDOMapping=0", "PDOMapping=0\nUnit=1", "not used: [6500] Unit"),
-    ("6500", "ParameterName=Operating", "ParameterName=\xd6perating", "not ASCII"),
     ("6500", "AccessType=ro", "AccessType ro", "neither a section nor a key"),
     ("6503", "ParameterName=Alarms", "ParameterName=Alarms ; errors", "configparser reads other entries"),
     ("6509", "DataType=0x0004", "DataType=0x0007", "6509-0: U32 ro in the data sheet, S32 ro"),
@@ -95,7 +115,14 @@ HEAD = [
     (("write", 0x6501_00), reply("60 01 65 00 00 00 00 00"), "6501-0: AccessType ro, and node 1"),
     (("write", 0x6002_00, 4, 999), reply("60 02 60 00 00 00 00 00"), "6002-0: node 1 answers a write of 0x3e7"),
     (("write", 0x6002_00, 4, 1_000_000), reply("80 02 60 00 30 00 09 06"), "6002-0: node 1 answers a write of 0xf4240"),
+    (("write", 0x6002_00, 4, 1_048_576), reply("60 02 60 00 00 00 00 00"), "against: The default of 6002 is above its limit"),
     (("write", 0x6003_00, 4, 1000), reply("60 03 60 00 00 00 00 00"), "against: A write of 6003 has to be below 6002"),
+    (("write", 0x6003_00, 4, 999), reply("43 03 60 00 00 00 00 00"), "against: A write of 6003 has to be below 6002"),
+    (("read", 0x6003_00), reply("43 03 60 00 28 00 00 00"), "against: A download in rising order"),
+    (("read", 0x1800_05), reply("80 00 18 05 07 00 00 00"), "against: 6200 is 1800sub5"),
+    (("read", 0x6004_00), reply("43 04 60 00 20 4E 00 00"), "against: 6003 is a command"),
+    (("read", 0x6509_00), reply("43 09 65 00 00 00 00 00"), "against: 6003 is a command"),
+    (("write", 0x1003_00, 1, 4), reply("60 03 10 00 00 00 00 00"), "1003-0: node 1 answers a write of 0x4"),
     (("write", 0x1800_01, 4, 0x181), reply("80 00 18 01 22 00 00 08"), "against: While a PDO is on, its sub1 still accepts"),
     (("write", 0x1800_02, 1, 253), reply("60 00 18 02 00 00 00 00"), "1800-2: node 1 answers a write of 0xfd"),
     (("write", 0x1800_02, 1, 0), reply("80 00 18 02 22 00 00 08"), "1800-2: node 1 answers a write of 0x0"),
@@ -110,8 +137,11 @@ TABLE = [
     ("entry 0x1017 0 U16", "entry 0x1017 0 U32", "1017-0: U16 rw in the data sheet, U32 rw"),
     ("entry 0x6504 0", "entry 0x6505 0", "6505-0: nothing in the data sheet"),
     ("entry 0x6504 0", "line 0x6504 0", "6504-0: U16 ro in the data sheet, nothing"),
+    ("entry 0x6504 0", "entry 0x6503 0", "6503-0 stands twice in the proved table"),
     ("entry 0x6504 0 U16", "entry 0x6504 0 U64", "cannot be read"),
 ]
+
+ALL = {"FILE": FILE, "SHEET": SHEET, "HEAD": HEAD, "TABLE": TABLE}
 
 
 def broken_sheet(text, section, old, new):

@@ -106,17 +106,26 @@ def shown(place):
 
 def lines_of(text):
     """The lines without their ends."""
-    if not text.isascii():
-        raise Fault("there are bytes that are not ASCII")
-    lines = text.split(LINE_END)
-    if lines.pop():
-        raise Fault("the last line has no end")
-    for line in lines:
-        if "\r" in line or "\n" in line:
-            raise Fault(f"a line does not end in CR LF: {line.splitlines()[0]}")
-        if len(line) > LONGEST_LINE:
-            raise Fault(f"a line is longer than {LONGEST_LINE} bytes: {line[:20]}..")
-    return lines
+    if not text.strip():
+        raise Fault("the file is empty")
+    if "\n" in text and LINE_END not in text:
+        raise Fault("the lines end in LF; write CR LF (unix2dos)")
+    lines = text.splitlines(keepends=True)
+    for place, line in enumerate(lines, 1):
+        if fault := fault_of(line):
+            raise Fault(f"line {place} {fault}")
+    return [line.removesuffix(LINE_END) for line in lines]
+
+
+def fault_of(line):
+    """What is wrong with the bytes of a line and its end, if anything."""
+    if not line.isascii():
+        return "has a byte that is not ASCII"
+    if not line.endswith(LINE_END):
+        return "does not end in CR LF"
+    if len(line) > LONGEST_LINE + len(LINE_END):
+        return f"is longer than {LONGEST_LINE} bytes"
+    return None
 
 
 def number(text, where):
