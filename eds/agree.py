@@ -11,7 +11,7 @@ READ_ONLY, BAD_VALUE, BAD_SIGNATURE = 0x06010002, 0x06090030, 0x08000020
 BAD_STATE, BLANK = 0x08000022, 0x08000024
 ABORT_CODES = {NO_SUCH_INDEX, NO_SUCH_SUB_INDEX, READ_ONLY, BAD_VALUE, BAD_SIGNATURE, BAD_STATE, BLANK}
 
-# A write of these acts at once: it empties the list, saves, loads, or makes the present place read the number.
+# A write of these is a command: it empties the list, saves, loads, or makes the present place read the number.
 # No download writes them, bit 0 of ObjFlags.
 COMMANDS = (0x1003_00, 0x1010_01, 0x1011_01, 0x6003_00)
 REFUSE_DOWNLOAD = 1
