@@ -1,4 +1,5 @@
 """Breaks that the check has to refuse, each with words of the line that refuses it."""
+import about
 
 # What happens to the bytes of the whole file, how, words of the refusal
 FILE = [
@@ -15,6 +16,8 @@ FILE = [
 
 # An entry that the head has not
 VARIABLE = "ObjectType=0x7\nDataType=0x0006\nAccessType=ro\nDefaultValue=0\nPDOMapping=0"
+# The lines of all bit rates
+BIT_RATES = "\n".join(f"BaudRate_{rate}=1" for rate in about.BIT_RATES)
 
 # Section, text behind its heading, what stands there instead, words of the refusal
 SHEET = [
@@ -23,6 +26,7 @@ SHEET = [
     ("FileInfo", "EDSVersion=4.0", "EDSVersion=5.0", "EDSVersion: 5.0"),
     ("FileInfo", "CreationDate=11-16-2026", "CreationDate=16-11-2026", "CreationDate is not of its form"),
     ("DeviceInfo", "VendorNumber=0x1", "VendorNumber=0x7", "1018-1: DefaultValue"),
+    ("DeviceInfo", BIT_RATES, BIT_RATES.replace("=1", "=0"), "[DeviceInfo] has no bit rate"),
     ("DeviceInfo", "NrOfTXPDO=2", "NrOfTXPDO=3", "NrOfTXPDO is not the number"),
     ("DeviceInfo", "NrOfRXPDO=0", "NrOfRXPDO=1", "NrOfRXPDO is not the number"),
     ("DeviceInfo", "LSS_Supported=0", "LSS_Supported=1", "LSS_Supported: 1"),
@@ -62,6 +66,7 @@ SHEET = [
     ("1000", "ParameterName=Device type", "ParameterName=Error register", "two objects have one name"),
     ("1003sub0", "ObjFlags=0x1\n", "", "1003-0: ObjFlags"),
     ("1003sub0", "PDOMapping=0", "LowLimit=0\nHighLimit=0\nPDOMapping=0", "1003-0 needs no limits"),
+    ("1003sub2", "ParameterName=Standard error field 2", "ParameterName=Standard error field 1", "[1003] has two sub-indices of one name"),
     ("1003sub1", "PDOMapping=0", "LowLimit=0\nHighLimit=0\nPDOMapping=0", "1003-1 needs no limits"),
     ("1003sub1", "PDOMapping=0", "DefaultValue=0\nPDOMapping=0", "1003-1 has no DefaultValue"),
     ("1005", "AccessType=ro", "AccessType=rw", "1005-0: U32 rw in the data sheet"),
