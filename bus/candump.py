@@ -7,9 +7,9 @@ INTERFACE = "can0"
 SECOND = 1_000_000
 ERROR_FLAG = 0x20000000
 
-FILE = re.compile(r"\((\d+)\.(\d{6})\) +(\w+) +([0-9A-Fa-f]{3}|[0-9A-Fa-f]{8})#(\S*)( [RT])?\s*")
+FILE = re.compile(r"\((\d+)\.(\d{6})\) +([\w.:-]+) +([0-9A-Fa-f]{3}|[0-9A-Fa-f]{8})#(\S*)( [RT])?\s*")
 SCREEN = re.compile(
-    r"\s*(?:\((\d+)\.(\d{6})\))?\s*(\w+)\s+(?:[RT]X [-B] [-E]\s+)?([0-9A-Fa-f]{3}|[0-9A-Fa-f]{8})\s+\[(\d+)\]\s*(.*)")
+    r"\s*(?:\((\d+)\.(\d{6})\))?\s*([\w.:-]+)\s+(?:[RT]X [-B] [-E]\s+)?([0-9A-Fa-f]{3}|[0-9A-Fa-f]{8})\s+\[(\d+)\]\s*(.*)")
 BYTES = re.compile(r"(?:[0-9A-Fa-f]{2}[. ]?)*")
 
 

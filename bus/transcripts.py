@@ -35,8 +35,9 @@ def parse_line(number, text):
 
 
 def parse(text, first=1):
-    """The lines of a transcript, numbered from `first`."""
-    return [parse_line(number, line) for number, line in enumerate(text.removesuffix("\n").split("\n"), first)]
+    """The lines of a transcript, numbered from `first`. Lines of Windows end in CR LF: the CR is not part of the line."""
+    lines = [line.removesuffix("\r") for line in text.removesuffix("\n").split("\n")]
+    return [parse_line(number, line) for number, line in enumerate(lines, first)]
 
 
 def render(lines):
@@ -51,10 +52,10 @@ def answer(lines, answers):
 
 
 def read_text(name):
-    """The text of a file, or of standard input for `-`; bad files end the program with one line."""
+    """The text of a file, or of standard input for `-`, without a byte order mark; bad files end the program with one line."""
     try:
         raw = sys.stdin.buffer.read() if name == "-" else pathlib.Path(name).read_bytes()
-        return raw.decode()
+        return raw.decode("utf-8-sig")
     except OSError as error:
         sys.exit(f"{name}: {error.strerror}")
     except UnicodeDecodeError:
