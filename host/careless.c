@@ -1,26 +1,69 @@
 /*
- * A host that neglects its duties: it fills all mailboxes of the CAN controller and does not abort the frames in them when the
- * tape is lost. host/check shows that it sends positions in a gap. Do not copy it.
+ * Hosts that neglect a duty. On the model board each of them sends positions in a gap, as host/check shows. Do not copy them.
+ * The word CARELESS of the environment says which one runs:
+ *   (none)   fills all mailboxes of the CAN controller, and does not abort the frames in them when the tape is lost
+ *   hasty    lends the missing sample before the abort is in effect
+ *   late     lends the missing sample first and aborts afterwards
  */
 #include "board.h"
 
+#include <stdio.h>
+#include <stdlib.h>
+#include <string.h>
+
+static enum { FILLS_MAILBOXES, HASTY, LATE } fault;
+static haybleater_head head;
+static uint32_t handed_over;
+
+static void choose_fault(void)
+{
+    const char *word = getenv("CARELESS");
+    if (!word)
+        return;
+    fault = strcmp(word, "late") == 0 ? LATE : HASTY;
+    if (fault == HASTY && strcmp(word, "hasty") != 0) {
+        fprintf(stderr, "careless: CARELESS is neither hasty nor late\n");
+        exit(2);
+    }
+}
+
+static void lose_position(void)
+{
+    bool pending = haybleater_is_position(handed_over);
+    if (fault == HASTY && pending)
+        board_can_request_abort();
+    haybleater_missing(&head);
+    if (fault == LATE && pending)
+        board_can_abort();
+}
+
+static bool may_send(void)
+{
+    return (fault == FILLS_MAILBOXES ? board_can_has_room() : board_can_idle()) && haybleater_waits(&head);
+}
+
 int main(void)
 {
-    static haybleater_head head;
     const haybleater_setup setup = {.node = 1, .identity = {.vendor = 1, .product = 2, .revision = 3, .serial = 4}};
     uint32_t raw;
     bool on_tape;
     haybleater_received received;
+    choose_fault();
     if (haybleater_power_up(&head, setup) != HAYBLEATER_NO_REFUSAL)
         return 1;
     for (;;) {
         while (board_millisecond_passed())
             haybleater_tick(&head);
-        if (board_sampled(&raw, &on_tape) && (!on_tape || haybleater_sample(&head, raw) != HAYBLEATER_NO_REFUSAL))
-            haybleater_missing(&head);
-        if (board_can_received(&received))
+        while (board_sampled(&raw, &on_tape)) {
+            if (!on_tape || haybleater_sample(&head, raw) != HAYBLEATER_NO_REFUSAL)
+                lose_position();
+        }
+        while (board_can_received(&received))
             haybleater_receive(&head, received);
-        while (board_can_has_room() && haybleater_waits(&head))
-            board_can_send(haybleater_slot(&head).frame);
+        while (may_send()) {
+            haybleater_frame frame = haybleater_slot(&head).frame;
+            handed_over = frame.identifier;
+            board_can_send(frame);
+        }
     }
 }
