@@ -15,11 +15,13 @@
  * Frames in flight. What is proved ends at haybleater_slot: a frame that waits in a mailbox of the CAN controller has left
  * the head. So that a gap arrives as a gap on the wire too, the host owes two things more:
  *   - one frame at a time: it asks for a slot only when no frame of the head is pending in the controller. Two mailboxes
- *     may swap their frames: "missing" and "good" then arrive in the wrong order, and a heartbeat is held back;
+ *     may swap their frames: "missing" and "good" then arrive in the wrong order, or a heartbeat is held back. Nor may two
+ *     frames wait in a FIFO;
  *   - before it calls haybleater_missing, also because a sample was refused, it aborts the pending frame in the controller
  *     if that is a position frame (haybleater_is_position).
- * The abort has to be in effect before haybleater_missing is called. A frame whose transmission has begun cannot be
- * withdrawn: it was begun before the missing sample, and the abort keeps the controller from repeating it after an error.
+ * The abort has to be in effect before haybleater_missing is called: no transmission of the frame can begin any more. One that
+ * has begun cannot be withdrawn. It was begun before the missing sample, and the abort keeps the controller from repeating it
+ * after an error or a lost arbitration. host/README.md says how to wait for it.
  *
  * What is proved: for every argument, refused ones too, a call's answer and the head that it leaves are determined by its
  * contract in crates/lent/src/lib.rt; each call ends, and leaves a head that every call can be made with.
@@ -53,15 +55,15 @@ extern "C" {
 #define HAYBLEATER_BAD_SAMPLE 3     /* a raw sample above 1,048,575 */
 #define HAYBLEATER_BAD_NODE 4       /* a node number not 1..127 */
 
-/* NMT states, each named with its heartbeat code; Initialising with the byte of the boot-up frame. */
+/* NMT states, each named with its heartbeat code; 00h for Initialising is the byte of the boot-up frame. */
 #define HAYBLEATER_INITIALISING 0x00
 #define HAYBLEATER_STOPPED 0x04
 #define HAYBLEATER_OPERATIONAL 0x05
 #define HAYBLEATER_PRE_OPERATIONAL 0x7F
 
 /*
- * A head. Only haybleater_power_up makes one. Its contents are private: they are never built from bytes, stored ones
- * neither. A whole head may be copied by assignment; the copy is another head.
+ * A head. Only haybleater_power_up makes one. Its contents are private. Never fill a head from bytes, not even from saved
+ * ones. A whole head may be copied by assignment; the copy is another head.
  */
 typedef struct {
     uint32_t private_to_haybleater[47];
@@ -82,8 +84,9 @@ typedef struct {
 } haybleater_setup;
 
 /*
- * A frame as the CAN controller received it. Bytes from `length` on are ignored. On the bus a DLC of 9 to 15 means 8 bytes:
- * the host sets `length` to 8 then, or haybleater_receive refuses the frame with HAYBLEATER_BAD_LENGTH.
+ * A frame as the CAN controller received it. Bytes from `length` on are ignored. In a classical frame a DLC of 9 to 15 means
+ * 8 bytes: the host sets `length` to 8 then, or haybleater_receive refuses the frame with HAYBLEATER_BAD_LENGTH. It does not
+ * lend CAN FD frames.
  */
 typedef struct {
     uint8_t bytes[8];
@@ -128,7 +131,7 @@ static inline bool haybleater_is_position(uint32_t identifier)
 /*
  * Which archive is linked. 0: that of `rt staticlib lent`, for x86-64 Linux, which has the calls as they are declared below. 1: one of
  * host/cross, for another processor; its exports take and answer by pointer only, and the calls are small functions over them, which
- * the host's compiler compiles. With the other number a program does not link.
+ * the host's compiler compiles. If the number does not fit the archive, linking fails.
  */
 #ifndef HAYBLEATER_BY_POINTER
 #if defined(__x86_64__) && defined(__linux__) && !defined(__ILP32__)
@@ -151,10 +154,9 @@ static inline bool haybleater_is_position(uint32_t identifier)
 HAYBLEATER_CALL uint8_t haybleater_power_up(haybleater_head *head, haybleater_setup setup);
 
 /*
- * A frame was received. Refuses with HAYBLEATER_BAD_IDENTIFIER or HAYBLEATER_BAD_LENGTH, in every state, what no bus can
- * carry: the head is unchanged. A frame neither refused nor meant for the head changes nothing and is no refusal: among
- * others every 29-bit and every remote frame, another node's, one of another length, a request in Stopped or while a reply
- * waits, and in Initialising all.
+ * A frame was received. Refuses with HAYBLEATER_BAD_IDENTIFIER or HAYBLEATER_BAD_LENGTH, in every state, what no classical
+ * frame can carry: the head is unchanged. These are ignored, with answer 0: 29-bit and remote frames, frames of other nodes or
+ * lengths, SYNC outside of Operational, requests in Stopped or while a reply waits, and every frame in Initialising.
  */
 HAYBLEATER_CALL uint8_t haybleater_receive(haybleater_head *head, haybleater_received frame);
 
