@@ -4,3 +4,4 @@ pub mod ByValue
 pub mod Lent
 pub mod Told
 pub mod Talks
+pub mod Strong

@@ -1,4 +1,5 @@
 pub mod Outcome
+pub mod Strong
 pub mod Outcomes
 pub mod Asked
 pub mod ByValue

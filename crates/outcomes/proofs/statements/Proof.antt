@@ -7,6 +7,7 @@ use Rattle.outcomes.proofs.ByValue.{by-value}
 use Rattle.outcomes.proofs.Lent.{lent}
 use Rattle.outcomes.proofs.Told.{told-rightly}
 use Rattle.outcomes.proofs.Talks.{talks}
+use Rattle.outcomes.proofs.Strong.{strong}
 use Rattle.outcomes.proofs.statements.Statement.{statement}
 use Rattle.outcomes.proofs.statements.Tie as tie
 
@@ -15,7 +16,7 @@ lent-too : LentOutcomes × LentAsked
 lent-too = (lent-outcomes, lent-asked)
 
 returns : tie.Need-returns
-returns c = (outcomes, asked, by-value, lent, told-rightly, talks)
+returns c = (outcomes, asked, by-value, lent, told-rightly, talks, strong)
 
 pub statements-spec : {M : Type 1} → statement M
 statements-spec = tie.close (tie.spec returns)
