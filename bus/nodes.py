@@ -7,6 +7,7 @@ from frames import HIGHEST_STANDARD
 OWN = 1
 HIGHEST = 127
 NUMBER = re.compile("[0-9]{1,3}")
+IDENTIFIER = re.compile("(?:0x)?0*[0-7]?[0-9A-Fa-f]{1,2}")
 NMT_COMMAND = 0x000
 NMT_LENGTH = 2
 REQUEST = 0x600
@@ -27,6 +28,13 @@ def of_option(command, asked):
 def number(at, node):
     """The node number `at` when N and 1 change places."""
     return {OWN: node, node: OWN}.get(at, at)
+
+
+def identifier_of(command, text):
+    """The identifier that --position gives; a wrong one ends the program with one line."""
+    if not IDENTIFIER.fullmatch(text):
+        sys.exit(f"{command}: --position: not an identifier in hex: {text}")
+    return int(text, 16)
 
 
 def identifier(held, node):
