@@ -207,7 +207,11 @@ def sentences(node):
             ((SCALING_ON, FACTORY_RANGE), BAD_VALUE),
             ((SCALING_ON, ("read", 0x6002_00)), 1_000_000),
             ((SCALING_ON, RANGE, ("write", 0x6000_00, 2, 0), ("read", 0x6002_00)), 1_048_576)],
-        "Write 6000 first, then 6002 and 6005sub1, then 6003: each write of the first three sets 6003 and 6509 to 0.": [
+        "Write 6000 first, then 6002 and 6005sub1, then 6003: each write of the first three sets 6003 and 6509 to 0. "
+        "A write of 6000 also sets 6002: to 1000000 with bit 2 set, to 1048576 with bit 2 clear.": [
+            *(((SCALING_ON, RANGE, ("write", 0x6000_00, 2, control), ("read", 0x6002_00)), 1_000_000 if control & 0x0004 else 1_048_576)
+              for control in (0x0000, 0x0004, 0x0008, 0x000C)),
+            ((*IN_ORDER, SCALING_ON, ("read", 0x6005_01)), 10_000),
             ((*IN_ORDER, READ_PRESET), 40),
             ((*IN_ORDER, READ_OFFSET), 0xFFFF_FFF6),
             *(((*IN_ORDER, again, read), 0) for again in (SCALING_ON, RANGE, STEP) for read in (READ_PRESET, READ_OFFSET))],
