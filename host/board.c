@@ -8,6 +8,8 @@
  *   late        of these, after the host lent a missing sample and before the next good one
  *   overtaken   transmissions that began while a frame handed over earlier was still pending
  *   lost        frames that the host aborted and that were no position frames
+ *   unlent      samples that were no position, and for which the host lent no missing one before it took the next sample
+ *   empty       frames without a byte that the host handed over: no frame of the head is one, so no frame waited
  *   behind      the most milliseconds, samples or received frames that waited for the host at once
  *   gaps        how often the tape was lost; in `reported` of them the emergency "missing" was sent before the tape was found,
  *               and after `resumed` of them a position was sent before the tape was lost again
@@ -74,9 +76,10 @@ static bool loses;
 static uint32_t now_ms, phase_left_ms, ms_due, samples_due, received_due;
 static size_t started; /* so many frames of `starting` were received */
 static bool off_tape, missing;
+static bool owed; /* the sample taken last was no position, and no missing one is lent for it yet */
 
 static struct {
-    unsigned positions, late, overtaken, lost, behind, gaps, reported, resumed;
+    unsigned positions, late, overtaken, lost, unlent, empty, behind, gaps, reported, resumed;
 } counts;
 static bool gap_reported, positions_resumed;
 
@@ -164,8 +167,9 @@ static void step_aborts(void)
 
 static void finish(void)
 {
-    printf("mailboxes=%u positions=%u late=%u overtaken=%u lost=%u behind=%u gaps=%u reported=%u resumed=%u\n", mailboxes,
-           counts.positions, counts.late, counts.overtaken, counts.lost, counts.behind, counts.gaps, counts.reported, counts.resumed);
+    printf("mailboxes=%u positions=%u late=%u overtaken=%u lost=%u unlent=%u empty=%u behind=%u gaps=%u reported=%u resumed=%u\n",
+           mailboxes, counts.positions, counts.late, counts.overtaken, counts.lost, counts.unlent, counts.empty, counts.behind,
+           counts.gaps, counts.reported, counts.resumed);
     exit(0);
 }
 
@@ -249,6 +253,8 @@ bool board_sampled(uint32_t *raw, bool *on_tape)
     if (samples_due == 0)
         return false;
     samples_due--;
+    counts.unlent += owed;
+    owed = off_tape;
     missing = missing && off_tape;
     *on_tape = !off_tape || in_100(REFUSED_IN_100);
     *raw = off_tape ? OUT_OF_RANGE : now_ms;
@@ -290,6 +296,7 @@ bool board_can_idle(void)
 
 void board_can_send(haybleater_frame frame)
 {
+    counts.empty += frame.length == 0;
     for (unsigned i = 0; i < mailboxes; i++) {
         if (boxes[i].held)
             continue;
@@ -328,4 +335,8 @@ void board_can_abort(void)
         step();
 }
 
-void board_note_missing(void) { missing = true; }
+void board_note_missing(void)
+{
+    missing = true;
+    owed = false;
+}

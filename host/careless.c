@@ -1,9 +1,11 @@
 /*
- * Hosts that neglect a duty. On the model board each of them sends positions in a gap, as host/check shows. Do not copy them.
+ * Hosts that neglect a duty. The model board counts the faults of each of them, as host/check shows. Do not copy them.
  * The word CARELESS of the environment says which one runs:
- *   (none)   fills all mailboxes of the CAN controller, and does not abort the frames in them when the tape is lost
- *   hasty    lends the missing sample before the abort is in effect
- *   late     lends the missing sample first and aborts afterwards
+ *   (none)     fills all mailboxes of the CAN controller, and does not abort the frames in them when the tape is lost
+ *   hasty      lends the missing sample before the abort is in effect
+ *   late       lends the missing sample first and aborts afterwards
+ *   trusting   ignores that a sample is refused, and lends no missing one for it
+ *   blind      sends what a slot answers, and does not ask whether a frame waited
  */
 #include "board.h"
 
@@ -11,7 +13,9 @@
 #include <stdlib.h>
 #include <string.h>
 
-static enum { FILLS_MAILBOXES, HASTY, LATE } fault;
+enum { FILLS_MAILBOXES, HASTY, LATE, TRUSTING, BLIND, FAULTS };
+static const char *const words[FAULTS] = {"", "hasty", "late", "trusting", "blind"};
+static unsigned fault = FILLS_MAILBOXES;
 static haybleater_head head;
 static uint32_t handed_over;
 
@@ -20,11 +24,12 @@ static void choose_fault(void)
     const char *word = getenv("CARELESS");
     if (!word)
         return;
-    fault = strcmp(word, "late") == 0 ? LATE : HASTY;
-    if (fault == HASTY && strcmp(word, "hasty") != 0) {
-        fprintf(stderr, "careless: CARELESS is neither hasty nor late\n");
-        exit(2);
+    for (fault = HASTY; fault < FAULTS; fault++) {
+        if (strcmp(word, words[fault]) == 0)
+            return;
     }
+    fprintf(stderr, "careless: CARELESS is none of hasty, late, trusting and blind\n");
+    exit(2);
 }
 
 static void lose_position(void)
@@ -32,14 +37,24 @@ static void lose_position(void)
     bool pending = haybleater_is_position(handed_over);
     if (fault == HASTY && pending)
         board_can_request_abort();
+    if ((fault == TRUSTING || fault == BLIND) && pending)
+        board_can_abort();
     haybleater_missing(&head);
     if (fault == LATE && pending)
         board_can_abort();
 }
 
+static void take_sample(uint32_t raw, bool on_tape)
+{
+    bool refused = on_tape && haybleater_sample(&head, raw) != HAYBLEATER_NO_REFUSAL;
+    if (!on_tape || (refused && fault != TRUSTING))
+        lose_position();
+}
+
 static bool may_send(void)
 {
-    return (fault == FILLS_MAILBOXES ? board_can_has_room() : board_can_idle()) && haybleater_waits(&head);
+    bool may_hand_over = fault == FILLS_MAILBOXES ? board_can_has_room() : board_can_idle();
+    return may_hand_over && (fault == BLIND || haybleater_waits(&head));
 }
 
 int main(void)
@@ -54,10 +69,8 @@ int main(void)
     for (;;) {
         while (board_millisecond_passed())
             haybleater_tick(&head);
-        while (board_sampled(&raw, &on_tape)) {
-            if (!on_tape || haybleater_sample(&head, raw) != HAYBLEATER_NO_REFUSAL)
-                lose_position();
-        }
+        while (board_sampled(&raw, &on_tape))
+            take_sample(raw, on_tape);
         while (board_can_received(&received))
             haybleater_receive(&head, received);
         while (may_send()) {

@@ -4,7 +4,7 @@
  * The host keeps the head in its own memory and lends it for each call. What it owes:
  *   - haybleater_power_up first, and no other call on that memory before it;
  *   - haybleater_receive for every frame that its CAN controller receives. An acceptance filter may drop all but 000h (NMT),
- *     080h (SYNC) and 600h+N (SDO requests): the head hears nothing else;
+ *     080h (SYNC) and 600h+N (SDO requests; N is the node number): the head hears nothing else;
  *   - haybleater_tick once each millisecond;
  *   - haybleater_sample or haybleater_missing for each sample of the sensor;
  *   - haybleater_slot when its CAN controller holds no frame of the head; it sends `frame` exactly if `waited`.
