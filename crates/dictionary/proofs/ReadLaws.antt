@@ -22,6 +22,9 @@ module _ (d : Device) (o : Bool) where
       shows d o 0x1000 0 refl refl
       ▸ shows d o 0x1003 0 refl refl
       ▸ shows d o 0x1005 0 refl refl
+      ▸ shows d o 0x1008 0 refl refl
+      ▸ shows d o 0x1009 0 refl refl
+      ▸ shows d o 0x100A 0 refl refl
       ▸ shows d o 0x1010 0 refl refl
       ▸ shows d o 0x1010 1 refl refl
       ▸ shows d o 0x1011 0 refl refl

@@ -2,7 +2,7 @@
 use Prim.Native.Nat.{ℕ, _+_, _^_, _≤_, _<_}
 use native.Mathlib.Omega.{arith}
 use mathlib.Core.Path.{_≡_, refl}
-use mathlib.Core.Bool.{Bool, true, cond}
+use mathlib.Core.Bool.{Bool, true, _&&_, cond}
 use lib.Dec.{T, leb, ltb, lit<}
 use lib.IntN.{ℤ, pos, negsuc, natAbs}
 use lib.ListN.{length, getD, length-map}
@@ -14,11 +14,14 @@ use Rattle.position.specs.declared.Profile.{Profile}
 use Rattle.position.specs.Position.{position}
 use Rattle.position.specs.Profile.{ValidProfile}
 use Rattle.position.proofs.Laws.{laws}
+use Rattle.names.specs.declared.Name.{Name}
+use Rattle.names.specs.Name.{isName}
 use Rattle.entries.specs.declared.Device.{Device}
+use Rattle.entries.specs.declared.Identity.{Identity}
 use Rattle.entries.specs.Table.{Entry, missing, entries, table, rowAt}
 use Rattle.dictionary.specs.Accepted.{transmissionType}
 use Rattle.dictionary.specs.Reads.{noEntry}
-use Rattle.dictionary.specs.Valid.{ValidDevice}
+use Rattle.dictionary.specs.Valid.{ValidIdentity, ValidDevice}
 use Rattle.dictionary.specs.AcceptedLaws.{those}
 use Rattle.dictionary.proofs.Columns.{row-of}
 use Rattle.dictionary.proofs.Those.{at-each}
@@ -31,6 +34,15 @@ transmission-most v a =
     either (within 1 240 v) (within 254 255 v) a
     (λ e. omega (arith, leb-true v 240 (both (leb 1 v) (leb v 240) e .1)))
     (λ e. leb-true v 255 (both (leb 254 v) (leb v 255) e .1))
+
+name-most : (n : Name) → isName n ≡ true → n .length ≤ 32
+name-most n e = leb-true (n .length) 32 (both (leb 1 (n .length)) (leb (n .length) 32) e .1)
+
+names-most : {i : Identity} → ValidIdentity i → (i .name .length ≤ 32) × (i .hardware .length ≤ 32) × (i .software .length ≤ 32)
+names-most {i} v =
+    let l = both (isName (i .name) && isName (i .hardware)) (isName (i .software)) (v .named) in
+    let k = both (isName (i .name)) (isName (i .hardware)) (l .0) in
+    (name-most (i .name) (k .0), name-most (i .hardware) (k .1), name-most (i .software) (l .1))
 
 twos-below : (z : ℤ) → natAbs z < 0x100000000 → twos z < 0x100000000
 twos-below (pos n) h = h
@@ -66,6 +78,9 @@ each =
     ▸ (λ d o h. lit< tt)
     ▸ (λ d o h. lit< tt)
     ▸ (λ d o h. lit< tt)
+    ▸ (λ d o h. at-most (names-most (h .identity) .0) tt)
+    ▸ (λ d o h. at-most (names-most (h .identity) .1) tt)
+    ▸ (λ d o h. at-most (names-most (h .identity) .2) tt)
     ▸ (λ d o h. lit< tt)
     ▸ (λ d o h. lit< tt)
     ▸ (λ d o h. lit< tt)
@@ -74,10 +89,10 @@ each =
     ▸ (λ d o h. at-most (h .settings .communication .inhibit) tt)
     ▸ (λ d o h. at-most (h .settings .communication .heartbeat) tt)
     ▸ (λ d o h. lit< tt)
-    ▸ (λ d o h. at-most (h .identity .vendor) tt)
-    ▸ (λ d o h. at-most (h .identity .product) tt)
-    ▸ (λ d o h. at-most (h .identity .revision) tt)
-    ▸ (λ d o h. at-most (h .identity .serial) tt)
+    ▸ (λ d o h. at-most (h .identity .fits .vendor) tt)
+    ▸ (λ d o h. at-most (h .identity .fits .product) tt)
+    ▸ (λ d o h. at-most (h .identity .fits .revision) tt)
+    ▸ (λ d o h. at-most (h .identity .fits .serial) tt)
     ▸ (λ d o h. lit< tt)
     ▸ (λ d o h. at-most (h .settings .communication .pdo1 .identifier-fits) tt)
     ▸ (λ d o h. at-most (transmission-most _ (h .settings .communication .pdo1 .transmission)) tt)

@@ -11,9 +11,25 @@ use Rattle.entries.specs.Table.{entries, table, lookup}
 use Rattle.dictionary.specs.Accepted.{abortCode}
 use Rattle.dictionary.specs.Reads.{shownAt}
 use Rattle.dictionary.specs.Writes.{written}
-use Rattle.dictionary.specs.Valid.{ValidDevice}
-use Rattle.dictionary.specs.Worked.{at, ready, ends, endEach, Worked}
+use Rattle.dictionary.specs.Valid.{ValidIdentity, ValidDevice}
+use Rattle.dictionary.specs.Worked.{identity1, at, ready, ends, endEach, Worked}
+use Rattle.dictionary.proofs.Names.{arrays-are}
 use Rattle.dictionary.proofs.Laws.{laws}
+
+-- its names stand in arrays of 32 bytes, and have 1 to 32
+pub named1 : ValidIdentity identity1
+named1 =
+    record {
+      fits =
+          record {
+            vendor = omega arith;
+            product = omega arith;
+            revision = omega arith;
+            serial = omega arith;
+            arrays = λ k. arrays-are identity1 k (refl, refl, refl);
+          };
+      named = refl;
+    }
 
 at-valid : ValidDevice (at 100)
 at-valid =
@@ -21,7 +37,7 @@ at-valid =
     record {
       node-low = omega arith;
       node-high = omega arith;
-      identity = record { vendor = omega arith; product = omega arith; revision = omega arith; serial = omega arith };
+      identity = named1;
       raw = omega arith;
       raw-missing = λ e. true-false e;
       errors = omega arith;

@@ -22,6 +22,10 @@ numbers d =
     -- count 0..4
     (0x1003, 0, d .errors) ∷
     (0x1005, 0, 0x80) ∷
+    -- the size of each name
+    (0x1008, 0, d .identity .name .length) ∷
+    (0x1009, 0, d .identity .hardware .length) ∷
+    (0x100A, 0, d .identity .software .length) ∷
     (0x1010, 0, 1) ∷
     -- read 1
     (0x1010, 1, 1) ∷

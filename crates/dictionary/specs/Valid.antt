@@ -1,6 +1,7 @@
 -- Valid devices, which are those that power-up and accepted writes leave. Each setting has its type, and is the factory value of its
 -- entry or one that the entry accepts: 01, chapter "Entries". The node number and the raw position are not refused by "Refusal numbers".
 use Prim.Native.Nat.{ℕ, _≤_}
+use lib.ListN.{length}
 use mathlib.Core.Path.{_≡_}
 use mathlib.Core.Bool.{true, false}
 use Rattle.position.specs.Profile.{highestRaw, ValidProfile}
@@ -9,6 +10,7 @@ use Rattle.entries.specs.declared.Communication.{Communication}
 use Rattle.entries.specs.declared.Settings.{Settings}
 use Rattle.entries.specs.declared.Identity.{Identity}
 use Rattle.entries.specs.declared.Device.{Device}
+use Rattle.entries.specs.Identity.{nameOf, isNamed}
 use Rattle.dictionary.specs.Accepted.{emergencyIdentifier, pdoIdentifier, transmissionType}
 
 pub record ValidPdo (p : Pdo) : Type 0 where
@@ -38,12 +40,18 @@ pub record ValidSettings (n : ℕ) (s : Settings) : Type 0 where
   pub communication : ValidCommunication n (s .communication)
   pub profile : ValidProfile (s .profile)
 
--- 1018-1..4: U32
-pub record ValidIdentity (i : Identity) : Type 0 where
+-- what power-up can be given: 1018-1..4 of 32 bits, and each name in an array of 32 bytes
+pub record FitsIdentity (i : Identity) : Type 0 where
   pub vendor : i .vendor ≤ 0xFFFFFFFF
   pub product : i .product ≤ 0xFFFFFFFF
   pub revision : i .revision ≤ 0xFFFFFFFF
   pub serial : i .serial ≤ 0xFFFFFFFF
+  pub arrays : (k : ℕ) → length (nameOf i k .bytes) ≡ 32
+
+-- 1008h, 1009h, 100Ah: strings of 1 to 32 bytes; another length is refused with 5
+pub record ValidIdentity (i : Identity) : Type 0 where
+  pub fits : FitsIdentity i
+  pub named : isNamed i ≡ true
 
 pub record ValidDevice (d : Device) : Type 0 where
   -- node number 1..127; another is refused with 4

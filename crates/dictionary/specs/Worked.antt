@@ -6,7 +6,9 @@ use mathlib.Core.Path.{_≡_}
 use mathlib.Core.Bool.{Bool, true, false, not, _&&_, cond}
 use mathlib.Core.List.{List, [], _∷_}
 use mathlib.Core.Option.{Option, none, some}
+use Rattle.names.specs.Name.{named}
 use Rattle.entries.specs.declared.Device.{Device}
+use Rattle.entries.specs.declared.Identity.{Identity}
 use Rattle.entries.specs.declared.table.Row.{Row}
 use Rattle.entries.specs.declared.table.Found.{Found}
 use Rattle.entries.specs.declared.table.Found.the-variants.{At, NoSubIndex, NoIndex}
@@ -20,12 +22,25 @@ use Rattle.dictionary.specs.Writes.{written}
 use Rattle.dictionary.specs.Valid.{ValidDevice}
 use Rattle.dictionary.specs.Laws.{Shows}
 
+-- node 1, identity 1, 2, 3, 4; its names are HEAD, 1 and 1
+abbrev pub identity1 : Identity
+identity1 =
+    record {
+      vendor = 1;
+      product = 2;
+      revision = 3;
+      serial = 4;
+      name = named (0x48 ∷ 0x45 ∷ 0x41 ∷ 0x44 ∷ []) 4;
+      hardware = named (0x31 ∷ []) 1;
+      software = named (0x31 ∷ []) 1;
+    }
+
 -- with that reading and count of errors
 abbrev pub device : Bool → ℕ → ℕ → Device
 device good raw errors =
     record {
       node = 1;
-      identity = record { vendor = 1; product = 2; revision = 3; serial = 4 };
+      identity = identity1;
       reading = record { good = good; raw = raw };
       errors = errors;
       settings = factory 1;
@@ -177,12 +192,15 @@ endEach d (e ∷ l) =
     let x = lookup (e .0) (e .1) in
     answerEach d x 0 (e .2) && answerEach d x invalidValue (e .3) && endEach d l
 
--- 01's column of factory values, at node 1: index, sub-index, number.
+-- 01's column of factory values, at node 1, and the sizes of its names: index, sub-index, number.
 abbrev pub factoryValues : List (ℕ × ℕ × ℕ)
 factoryValues =
     (0x1000, 0, 0x00080196) ∷
     (0x1003, 0, 0) ∷
     (0x1005, 0, 0x80) ∷
+    (0x1008, 0, 4) ∷
+    (0x1009, 0, 1) ∷
+    (0x100A, 0, 1) ∷
     (0x1010, 0, 1) ∷
     (0x1010, 1, 1) ∷
     (0x1011, 0, 1) ∷

@@ -3,6 +3,6 @@ use mathlib.Core.Path.{_≡_, refl}
 use lib.ListN.{length}
 use Rattle.entries.specs.Table.{entries, table}
 
-pub rows-are : length table ≡ 44
+pub rows-are : length table ≡ 47
 unfolding table entries
 rows-are = refl

@@ -31,7 +31,7 @@ abbrev pub risesFrom : ℕ → List ℕ → Bool
 risesFrom a [] = true
 risesFrom a (b ∷ l) = ltb a b && risesFrom b l
 
--- 01's table "Entries", its first two columns: index, sub-index, the type's bytes, and whether it is rw.
+-- 01's table "Entries" with the names 1008h, 1009h, 100Ah, its first two columns: index, sub-index, the type's bytes, and whether it is rw.
 abbrev pub columns : List (ℕ × ℕ × ℕ × Bool)
 columns =
     (0x1000, 0, 4, false) ∷
@@ -42,6 +42,9 @@ columns =
     (0x1003, 3, 4, false) ∷
     (0x1003, 4, 4, false) ∷
     (0x1005, 0, 4, false) ∷
+    (0x1008, 0, 32, false) ∷
+    (0x1009, 0, 32, false) ∷
+    (0x100A, 0, 32, false) ∷
     (0x1010, 0, 1, false) ∷
     (0x1010, 1, 4, true) ∷
     (0x1011, 0, 1, false) ∷

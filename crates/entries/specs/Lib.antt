@@ -1,3 +1,4 @@
+pub mod Identity
 pub mod Settings
 pub mod Table
 pub mod Keys

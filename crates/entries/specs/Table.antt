@@ -17,7 +17,7 @@ use Rattle.entries.specs.declared.table.Accepted.the-variants.{PdoIdenti
 use Rattle.entries.specs.declared.table.Found.{Found}
 use Rattle.entries.specs.declared.table.Found.the-variants.{At, NoSubIndex, NoIndex}
 
--- A type is its number of bytes; S32 is two's complement.
+-- A type is its number of bytes; S32 is two's complement. A name is a string of 1 to 32 bytes: it reads its size, and segments carry it.
 abbrev U8 : ℕ
 U8 = 1
 
@@ -29,6 +29,9 @@ U32 = 4
 
 abbrev S32 : ℕ
 S32 = 4
+
+abbrev name : ℕ
+name = 32
 
 abbrev ro : Bool
 ro = false
@@ -80,6 +83,9 @@ entries =
     entry 0x1003 3 U32 ro Nothing (beyond 3) (is 0x5000) ∷
     entry 0x1003 4 U32 ro Nothing (beyond 4) (is 0x5000) ∷
     entry 0x1005 0 U32 ro Nothing never (is 0x80) ∷
+    entry 0x1008 0 name ro Nothing never (λ d o. d .identity .name .length) ∷
+    entry 0x1009 0 name ro Nothing never (λ d o. d .identity .hardware .length) ∷
+    entry 0x100A 0 name ro Nothing never (λ d o. d .identity .software .length) ∷
     entry 0x1010 0 U8 ro Nothing never (is 1) ∷
     entry 0x1010 1 U32 rw (Signature 0x65766173) never (is 1) ∷
     entry 0x1011 0 U8 ro Nothing never (is 1) ∷

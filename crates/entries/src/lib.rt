@@ -1,7 +1,9 @@
 //! The settings and their factory values, the device that the entries show, and the table of entries. 01, "Entries".
 ghost use mathlib.Core.Path.{_≡_};
 ghost use Rattle.entries.specs.Settings.{factory as factorySettings};
+ghost use Rattle.entries.specs.Identity.{nameOf};
 ghost use Rattle.entries.specs.Laws.{Laws};
+use names::Name;
 use position::FULL_RANGE;
 use position::Profile;
 
@@ -63,12 +65,29 @@ impl Settings {
     }
 }
 
+// The numbers of 1018h, and the names 1008h, 1009h, 100Ah.
 #[repr(C)]
 pub struct Identity {
     pub vendor: u32,
     pub product: u32,
     pub revision: u32,
     pub serial: u32,
+    pub name: Name,
+    pub hardware: Name,
+    pub software: Name,
+}
+
+// The name of this number: 1 for 1008h, 2 for 1009h, 3 for 100Ah.
+pub fn name_of(identity: Identity, number: u8) -> Name
+    ensures { λ r. ⌜ r ≡ nameOf identity number ⌝ }
+{
+    if number == 1 {
+        return identity.name;
+    }
+    if number == 2 {
+        return identity.hardware;
+    }
+    identity.software
 }
 
 // The present sample: its raw number is 0 while it is missing.

@@ -30,6 +30,9 @@ pub fn start() -> Session
             product: 2,
             revision: 3,
             serial: 4,
+            name: names::short(b'H', b'E', b'A', b'D', 4),
+            hardware: names::short(b'1', 0, 0, 0, 1),
+            software: names::short(b'1', 0, 0, 0, 1),
         },
     });
     let head = up.head;

@@ -1,25 +1,26 @@
--- What power-up answers, for a node number that is refused and for one that is not; the head that it leaves is valid.
+-- What power-up answers, refused or not; the head that it leaves is valid.
 use Prim.Native.Nat.{ℕ}
-use mathlib.Core.Path.{_≡_, refl}
+use mathlib.Core.Path.{_≡_, sym, subst}
 use mathlib.Core.Bool.{true, false}
-use borrow.Author.Tests.{leb-true}
-use native.Mathlib.Omega.{arith}
 use Rattle.cases.specs.Tests.{within}
-use Rattle.cases.proofs.Cases.{both}
 use Rattle.entries.specs.declared.Identity.{Identity}
-use Rattle.dictionary.specs.Valid.{ValidIdentity}
+use Rattle.entries.specs.Identity.{isNamed}
+use Rattle.dictionary.specs.Valid.{FitsIdentity}
+use Rattle.parts.specs.declared.Answer.{Answer}
 use Rattle.promises.specs.States.{started}
-use Rattle.promises.specs.Calls.{answered, noIdentity}
+use Rattle.promises.specs.Calls.{answered, refusedWith, poweredUp}
+use Rattle.promises.specs.Valid.{Valid}
 use Rattle.promises.specs.Promised.{PowersUp}
-use Rattle.promises.proofs.Valid.{valid-started}
+use Rattle.promises.proofs.Histories.{valid-refused, valid-powered}
 
-pub powers-up : (n : ℕ) (i : Identity) → within 1 127 n ≡ true → ValidIdentity i → PowersUp n i (answered 0 (started n i))
-powers-up n i e v = let b = both _ _ e in rw e (refl, valid-started n i (leb-true _ _ (b .0)) (leb-true _ _ (b .1)) v)
+module _ (n : ℕ) (i : Identity) where
+  pub powers-up-not : within 1 127 n ≡ false → PowersUp n i (refusedWith 4)
+  powers-up-not e = (rw e, valid-refused)
 
-pub powers-up-refused : (n : ℕ) (i : Identity) → within 1 127 n ≡ false → PowersUp n i (answered 4 (started 1 noIdentity))
-powers-up-refused n i e =
-    rw e (
-      refl,
-      valid-started 1 noIdentity (omega arith) (omega arith)
-          (record { vendor = omega arith; product = omega arith; revision = omega arith; serial = omega arith }),
-    )
+  pub powers-up-unnamed : within 1 127 n ≡ true → isNamed i ≡ false → PowersUp n i (refusedWith 5)
+  powers-up-unnamed e u = (rw (e, u), valid-refused)
+
+  pub powers-up : within 1 127 n ≡ true → isNamed i ≡ true → FitsIdentity i → PowersUp n i (answered 0 (started n i))
+  powers-up e u f =
+      let so : answered 0 (started n i) ≡ poweredUp n i = rw (e, u) in
+      (so, subst (λ (b : Answer). Valid (b .head)) (sym so) (valid-powered (record { number = n; identity = i; fits = f })))

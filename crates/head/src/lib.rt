@@ -3,7 +3,7 @@
 ghost use mathlib.Core.Path.{_≡_};
 ghost use Rattle.promises.specs.States.{started as startedHead};
 ghost use Rattle.parts.specs.declared.Sensor.the-variants.{Missing, Raw};
-ghost use Rattle.promises.specs.Calls.{answered};
+ghost use Rattle.promises.specs.Calls.{answered, refusedWith};
 ghost use Rattle.promises.specs.Valid.{Valid};
 ghost use Rattle.promises.specs.Promised.{PowersUp, Receives, Ticks, Samples, Slots};
 use can::Received;
@@ -11,6 +11,7 @@ use entries::Device;
 use entries::Identity;
 use entries::Reading;
 use entries::Settings;
+use names::Transfer;
 use parts::Answer;
 use parts::Core;
 use parts::Head;
@@ -24,28 +25,46 @@ mod sending;
 
 pub const BAD_NODE: u8 = 4;
 
-// Initialising, with factory settings, the reading missing. A node number that is not 1..127 is refused with 4,
-// and the head is then of node 1 with identity numbers 0.
+pub const BAD_NAME: u8 = 5;
+
+// Initialising, with factory settings, the reading missing. A node number that is not 1..127 is refused with 4, then
+// a name that does not have 1 to 32 bytes with 5. The head is then of node 1 with identity numbers 0 and "?" for each name.
 pub fn power_up(setup: Setup) -> Answer
     ensures { λ r. ⌜ PowersUp (setup .node) (setup .identity) r ⌝ }
 {
     let node = setup.node;
     let identity = setup.identity;
-    if (1 <= node) & (node <= 127) {
-        return Answer {
-            refusal: can::NO_REFUSAL,
-            head: started(node, identity),
-        };
+    if !((1 <= node) & (node <= 127)) {
+        return refused(BAD_NODE);
     }
-    let none = Identity {
-        vendor: 0,
-        product: 0,
-        revision: 0,
-        serial: 0,
-    };
+    if !(names::is_name(identity.name)
+        & names::is_name(identity.hardware)
+        & names::is_name(identity.software)) {
+        return refused(BAD_NAME);
+    }
     Answer {
-        refusal: BAD_NODE,
-        head: started(1, none),
+        refusal: can::NO_REFUSAL,
+        head: started(node, identity),
+    }
+}
+
+fn refused(refusal: u8) -> Answer
+    ensures { λ r. ⌜ r ≡ refusedWith refusal ⌝ }
+{
+    Answer {
+        refusal,
+        head: started(
+            1,
+            Identity {
+                vendor: 0,
+                product: 0,
+                revision: 0,
+                serial: 0,
+                name: names::unknown(),
+                hardware: names::unknown(),
+                software: names::unknown(),
+            },
+        ),
     }
 }
 
@@ -55,6 +74,7 @@ fn started(node: u8, identity: Identity) -> Head
     let line = waiting::none();
     Head {
         line,
+        transfer: Transfer::NONE,
         core: Core {
             nmt: Nmt::INITIALISING,
             announced: true,
@@ -83,10 +103,20 @@ pub fn receive(head: Head, frame: Received) -> Answer
     let state = head.core.nmt;
     let device = head.core.device;
     let line = head.line;
-    let heard = steps::hear::hear(state, device, line, frame);
+    let present = head.transfer;
+    let heard = steps::hear::hear(state, device, present, line, frame);
+    let transfer = heard.transfer;
+    let core = head.core;
     Answer {
         refusal: heard.refusal,
-        head: obeying::obeyed(head, heard),
+        head: obeying::obeyed(
+            Head {
+                line,
+                transfer,
+                core,
+            },
+            heard,
+        ),
     }
 }
 
@@ -104,11 +134,13 @@ pub fn tick(head: Head) -> Head
     let ticked = steps::tick::tick(state, settings, counted, good, announced);
     let timers = ticked.timers;
     let due = ticked.due;
+    let transfer = head.transfer;
     let mut core = head.core;
     core.timers = timers;
     if ticked.way != steps::tick::SETTLES {
         return Head {
             line: waiting,
+            transfer,
             core,
         };
     }
@@ -121,7 +153,11 @@ pub fn tick(head: Head) -> Head
         announced,
         due,
     );
-    Head { line, core }
+    Head {
+        line,
+        transfer,
+        core,
+    }
 }
 
 // A raw position, or "missing". A raw position above 1,048,575 is refused with 3.
@@ -159,9 +195,14 @@ pub fn sample_missing(head: Head) -> Head
     let mut device = head.core.device;
     device.reading = reading;
     device.errors = left.errors;
+    let transfer = head.transfer;
     let mut core = head.core;
     core.device = device;
-    Head { line, core }
+    Head {
+        line,
+        transfer,
+        core,
+    }
 }
 
 pub fn sample_raw(head: Head, raw: u32) -> Answer
@@ -184,11 +225,16 @@ pub fn sample_raw(head: Head, raw: u32) -> Answer
     let line = left.line;
     let mut device = head.core.device;
     device.reading = reading;
+    let transfer = head.transfer;
     let mut core = head.core;
     core.device = device;
     Answer {
         refusal: left.refusal,
-        head: Head { line, core },
+        head: Head {
+            line,
+            transfer,
+            core,
+        },
     }
 }
 

@@ -38,9 +38,14 @@ fn replied(head: Head, heard: Heard) -> Head
     let left = effect::reply(waiting, bytes);
     let reply = left.reply;
     let line = left.line;
+    let transfer = head.transfer;
     let mut core = head.core;
     core.reply = reply;
-    Head { line, core }
+    Head {
+        line,
+        transfer,
+        core,
+    }
 }
 
 fn synced(head: Head) -> Head
@@ -59,9 +64,14 @@ fn synced(head: Head) -> Head
     );
     let timers = left.timers;
     let line = left.line;
+    let transfer = head.transfer;
     let mut core = head.core;
     core.timers = timers;
-    Head { line, core }
+    Head {
+        line,
+        transfer,
+        core,
+    }
 }
 
 fn configured(head: Head, heard: Heard) -> Head
@@ -91,11 +101,16 @@ fn configured(head: Head, heard: Heard) -> Head
     settings.communication = communication;
     let mut device = head.core.device;
     device.settings = settings;
+    let transfer = head.transfer;
     let mut core = head.core;
     core.device = device;
     core.timers = timers;
     core.reply = reply;
-    Head { line, core }
+    Head {
+        line,
+        transfer,
+        core,
+    }
 }
 
 fn scaled(head: Head, heard: Heard) -> Head
@@ -120,10 +135,15 @@ fn scaled(head: Head, heard: Heard) -> Head
     settings.profile = profile;
     let mut device = head.core.device;
     device.settings = settings;
+    let transfer = head.transfer;
     let mut core = head.core;
     core.device = device;
     core.reply = reply;
-    Head { line, core }
+    Head {
+        line,
+        transfer,
+        core,
+    }
 }
 
 fn entered(head: Head, heard: Heard) -> Head
@@ -146,10 +166,15 @@ fn entered(head: Head, heard: Heard) -> Head
     let entered = left.nmt;
     let timers = left.timers;
     let line = left.line;
+    let transfer = head.transfer;
     let mut core = head.core;
     core.nmt = entered;
     core.timers = timers;
-    Head { line, core }
+    Head {
+        line,
+        transfer,
+        core,
+    }
 }
 
 fn restarted(head: Head, heard: Heard) -> Head
@@ -164,12 +189,17 @@ fn restarted(head: Head, heard: Heard) -> Head
     let line = left.line;
     let mut device = head.core.device;
     device.settings = settings;
+    let transfer = head.transfer;
     let mut core = head.core;
     core.device = device;
     core.nmt = state;
     core.announced = left.announced;
     core.timers = timers;
-    Head { line, core }
+    Head {
+        line,
+        transfer,
+        core,
+    }
 }
 
 fn saved(head: Head, heard: Heard) -> Head
@@ -184,10 +214,15 @@ fn saved(head: Head, heard: Heard) -> Head
     let line = left.line;
     let mut device = head.core.device;
     device.saved = saved;
+    let transfer = head.transfer;
     let mut core = head.core;
     core.device = device;
     core.reply = reply;
-    Head { line, core }
+    Head {
+        line,
+        transfer,
+        core,
+    }
 }
 
 fn emptied(head: Head, heard: Heard) -> Head
@@ -198,8 +233,13 @@ fn emptied(head: Head, heard: Heard) -> Head
     let left = effect::empty(waiting, bytes);
     let reply = left.reply;
     let line = left.line;
+    let transfer = head.transfer;
     let mut core = head.core;
     core.device.errors = left.errors;
     core.reply = reply;
-    Head { line, core }
+    Head {
+        line,
+        transfer,
+        core,
+    }
 }

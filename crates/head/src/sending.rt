@@ -30,9 +30,14 @@ fn booted(head: Head) -> Head
     );
     let state = left.nmt;
     let line = left.line;
+    let transfer = head.transfer;
     let mut core = head.core;
     core.nmt = state;
-    Head { line, core }
+    Head {
+        line,
+        transfer,
+        core,
+    }
 }
 
 fn announced(head: Head) -> Head
@@ -47,10 +52,15 @@ fn announced(head: Head) -> Head
         waiting,
     );
     let line = left.line;
+    let transfer = head.transfer;
     let mut core = head.core;
     core.announced = left.announced;
     core.timers.inhibit = left.inhibit;
-    Head { line, core }
+    Head {
+        line,
+        transfer,
+        core,
+    }
 }
 
 fn taken(head: Head) -> Head
@@ -60,6 +70,11 @@ fn taken(head: Head) -> Head
     let waiting = head.line;
     let left = slot::take(waiting);
     let line = left.line;
+    let transfer = head.transfer;
     let core = head.core;
-    Head { line, core }
+    Head {
+        line,
+        transfer,
+        core,
+    }
 }

@@ -3,6 +3,8 @@ use mathlib.Core.Path.{refl}
 use mathlib.Core.List.{map}
 use mir.Syntax.{w8, w32}
 use denote.Builtin.{u8}
+use Rattle.names.proofs.Transfer as Transfer
+use Rattle.names.proofs.Transfer.Laws as Transfer′
 use Rattle.parts.proofs.Head as Head
 use Rattle.parts.proofs.Head.Laws as Head′
 use Rattle.parts.proofs.Core as Core
@@ -25,20 +27,26 @@ use Rattle.lending.proofs.Rows.{uint-row, bool-row}
 use Rattle.lending.proofs.Parts.{Field, Stored}
 use Rattle.lending.proofs.Fields.{first, next, tupled, plainly, listed, field-at, stored-at}
 use Rattle.lent.proofs.Rows.{head-row, core-row, nmt-row, timers-row, device-row, settings-row, reading-row, communication-row}
-use Rattle.lent.proofs.Rows.{profile-row, line-row, bytes-row}
+use Rattle.lent.proofs.Rows.{profile-row, transfer-row, line-row, bytes-row}
 
 -- ---- the fields
 abbrev pub head-line : Stored head-row line-row
 head-line =
     stored-at Head.the-type Head′.the-laws first 0 refl (λ h. h .line) (map (λ v. v)) (listed u8 5 line-row) (λ h. (refl, refl))
-    (λ h x. record { line = x; core = h .core }) (λ h x. refl)
+    (λ h x. record { line = x; transfer = h .transfer; core = h .core }) (λ h x. refl)
+
+abbrev pub head-transfer : Stored head-row transfer-row
+head-transfer =
+    stored-at Head.the-type Head′.the-laws (next first) 5 refl (λ h. h .transfer) (Transfer.the-type .to)
+    (tupled Transfer.the-type Transfer′.the-laws transfer-row (λ x. refl)) (λ h. (refl, refl))
+    (λ h x. record { line = h .line; transfer = x; core = h .core }) (λ h x. refl)
 
 abbrev pub head-core : Stored head-row core-row
 head-core =
-    stored-at Head.the-type Head′.the-laws (next first) 8 refl (λ h. h .core) (Core.the-type .to)
+    stored-at Head.the-type Head′.the-laws (next (next first)) 8 refl (λ h. h .core) (Core.the-type .to)
     (tupled Core.the-type Core′.the-laws core-row (λ x. refl))
     (λ h. (refl, refl))
-    (λ h x. record { line = h .line; core = x }) (λ h x. refl)
+    (λ h x. record { line = h .line; transfer = h .transfer; core = x }) (λ h x. refl)
 
 abbrev pub core-nmt : Stored core-row nmt-row
 core-nmt =
@@ -73,14 +81,14 @@ core-device =
 
 abbrev pub device-reading : Stored device-row reading-row
 device-reading =
-    stored-at Device.the-type Device′.the-laws (next (next first)) 20 refl (λ d. d .reading) (Reading.the-type .to)
+    stored-at Device.the-type Device′.the-laws (next (next first)) 120 refl (λ d. d .reading) (Reading.the-type .to)
     (tupled Reading.the-type Reading′.the-laws reading-row (λ x. refl)) (λ d. (refl, refl))
     (λ d x. record { node = d .node; identity = d .identity; reading = x; errors = d .errors; settings = d .settings; saved = d .saved })
     (λ d x. refl)
 
 abbrev pub device-errors : Stored device-row (uint-row w32)
 device-errors =
-    stored-at Device.the-type Device′.the-laws (next (next (next first))) 28 refl (λ d. d .errors) (λ x. x) (plainly (uint-row w32))
+    stored-at Device.the-type Device′.the-laws (next (next (next first))) 128 refl (λ d. d .errors) (λ x. x) (plainly (uint-row w32))
     (λ d. (refl, refl))
     (λ d x. record {
       node = d .node;
@@ -93,14 +101,14 @@ device-errors =
 
 abbrev pub device-settings : Stored device-row settings-row
 device-settings =
-    stored-at Device.the-type Device′.the-laws (next (next (next (next first)))) 32 refl (λ d. d .settings) (Settings.the-type .to)
+    stored-at Device.the-type Device′.the-laws (next (next (next (next first)))) 132 refl (λ d. d .settings) (Settings.the-type .to)
     (tupled Settings.the-type Settings′.the-laws settings-row (λ x. refl)) (λ d. (refl, refl))
     (λ d x. record { node = d .node; identity = d .identity; reading = d .reading; errors = d .errors; settings = x; saved = d .saved })
     (λ d x. refl)
 
 abbrev pub device-saved : Stored device-row settings-row
 device-saved =
-    stored-at Device.the-type Device′.the-laws (next (next (next (next (next first))))) 88 refl (λ d. d .saved) (Settings.the-type .to)
+    stored-at Device.the-type Device′.the-laws (next (next (next (next (next first))))) 188 refl (λ d. d .saved) (Settings.the-type .to)
     (tupled Settings.the-type Settings′.the-laws settings-row (λ x. refl)) (λ d. (refl, refl))
     (λ d x. record {
       node = d .node;

@@ -4,8 +4,8 @@ use denote.RattleType.{RattleType}
 use Rattle.lending.proofs.Rows.{Row, uint-row, bool-row}
 use Rattle.lending.proofs.Parts.{Part, Place, whole, all-of, _▸_, _▹_}
 use Rattle.lent.proofs.Rows.{head-row, core-row, nmt-row, timers-row, device-row, settings-row, reading-row, communication-row}
-use Rattle.lent.proofs.Rows.{profile-row, line-row, bytes-row}
-use Rattle.lent.proofs.Fields.{head-line, head-core, core-nmt, core-announced, core-timers, core-reply, core-device}
+use Rattle.lent.proofs.Rows.{profile-row, transfer-row, line-row, bytes-row}
+use Rattle.lent.proofs.Fields.{head-line, head-transfer, head-core, core-nmt, core-announced, core-timers, core-reply, core-device}
 use Rattle.lent.proofs.Fields.{device-reading, device-errors, device-settings, device-saved, settings-communication}
 use Rattle.lent.proofs.Fields.{settings-profile, timers-inhibit, device-node, reading-good, reading-raw, communication-emergency}
 use Rattle.lent.proofs.Fields.{communication-inhibit}
@@ -33,6 +33,9 @@ module _ {P : RattleType} {π : Ty} {row : Row P π} where
 -- ---- the parts that are stored too
 abbrev pub line : Place head-row line-row
 line = head-line ▹ all-of
+
+abbrev pub transfer : Place head-row transfer-row
+transfer = head-transfer ▹ all-of
 
 abbrev pub nmt : Place head-row nmt-row
 nmt = in-core (core-nmt ▹ all-of)

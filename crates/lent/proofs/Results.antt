@@ -36,6 +36,8 @@ use Rattle.steps.proofs.slot.Announced as Announced
 use Rattle.steps.proofs.slot.Announced.Laws as Announced′
 use Rattle.steps.proofs.slot.Taken as Taken
 use Rattle.steps.proofs.slot.Taken.Laws as Taken′
+use Rattle.names.proofs.Transfer as Transfer
+use Rattle.names.proofs.Transfer.Laws as Transfer′
 use Rattle.parts.proofs.Nmt as Nmt
 use Rattle.parts.proofs.Nmt.Laws as Nmt′
 use Rattle.parts.proofs.Timers as Timers
@@ -60,34 +62,38 @@ use Rattle.lending.proofs.Fields.{first, next, tupled, plainly, listed, field-a
 use Rattle.lent.proofs.Rows.{head-row, answer-row, nmt-row, timers-row, settings-row, reading-row, communication-row, profile-row}
 use Rattle.lent.proofs.Rows.{outgoing-row, line-row, bytes-row, flags-row, heard-row, replied-row, synced-row, configured-row}
 use Rattle.lent.proofs.Rows.{scaled-row, entered-row, restarted-row, saved-row, emptied-row, sampled-row, missed-row, ticked-row}
-use Rattle.lent.proofs.Rows.{slotted-row, booted-row, announced-row, taken-row}
+use Rattle.lent.proofs.Rows.{slotted-row, booted-row, announced-row, taken-row, transfer-row}
 
 abbrev pub heard-refusal : Field heard-row (uint-row w8)
 heard-refusal = field-at Heard.the-type Heard′.the-laws first 0 refl (λ z. z .refusal) (λ x. x) (plainly (uint-row w8))
     (λ z. (refl, refl))
 
+abbrev pub heard-transfer : Field heard-row transfer-row
+heard-transfer = field-at Heard.the-type Heard′.the-laws (next first) 1 refl (λ z. z .transfer) (Transfer.the-type .to)
+    (tupled Transfer.the-type Transfer′.the-laws transfer-row (λ x. refl)) (λ z. (refl, refl))
+
 abbrev pub heard-way : Field heard-row (uint-row w8)
-heard-way = field-at Heard.the-type Heard′.the-laws (next first) 1 refl (λ z. z .way) (λ x. x) (plainly (uint-row w8))
+heard-way = field-at Heard.the-type Heard′.the-laws (next (next first)) 3 refl (λ z. z .way) (λ x. x) (plainly (uint-row w8))
     (λ z. (refl, refl))
 
 abbrev pub heard-state : Field heard-row nmt-row
-heard-state = field-at Heard.the-type Heard′.the-laws (next (next first)) 2 refl (λ z. z .state) (Nmt.the-type .to)
+heard-state = field-at Heard.the-type Heard′.the-laws (next (next (next first))) 4 refl (λ z. z .state) (Nmt.the-type .to)
     (tupled Nmt.the-type Nmt′.the-laws nmt-row (λ x. refl)) (λ z. (refl, refl))
 
 abbrev pub heard-all : Field heard-row bool-row
-heard-all = field-at Heard.the-type Heard′.the-laws (next (next (next first))) 3 refl (λ z. z .all) (λ x. x) (plainly bool-row)
+heard-all = field-at Heard.the-type Heard′.the-laws (next (next (next (next first)))) 5 refl (λ z. z .all) (λ x. x) (plainly bool-row)
     (λ z. (refl, refl))
 
 abbrev pub heard-reply : Field heard-row bytes-row
-heard-reply = field-at Heard.the-type Heard′.the-laws (next (next (next (next first)))) 4 refl (λ z. z .reply) (map (λ v. v))
+heard-reply = field-at Heard.the-type Heard′.the-laws (next (next (next (next (next first))))) 6 refl (λ z. z .reply) (map (λ v. v))
     (listed u8 8 bytes-row) (λ z. (refl, refl))
 
 abbrev pub heard-key : Field heard-row (uint-row w32)
-heard-key = field-at Heard.the-type Heard′.the-laws (next (next (next (next (next first))))) 12 refl (λ z. z .key) (λ x. x)
+heard-key = field-at Heard.the-type Heard′.the-laws (next (next (next (next (next (next first)))))) 16 refl (λ z. z .key) (λ x. x)
     (plainly (uint-row w32)) (λ z. (refl, refl))
 
 abbrev pub heard-value : Field heard-row (uint-row w32)
-heard-value = field-at Heard.the-type Heard′.the-laws (next (next (next (next (next (next first)))))) 16 refl (λ z. z .value) (λ x. x)
+heard-value = field-at Heard.the-type Heard′.the-laws (next (next (next (next (next (next (next first))))))) 20 refl (λ z. z .value) (λ x. x)
     (plainly (uint-row w32)) (λ z. (refl, refl))
 
 abbrev pub replied-reply : Field replied-row bytes-row

@@ -4,6 +4,8 @@ use denote.Array.{Array}
 use denote.Builtin.{u8}
 use denote.Memory.{pointee}
 use denote.Plain.{Boolean}
+use Rattle.names.proofs.Transfer as Transfer
+use Rattle.names.proofs.Transfer.Laws as Transfer′
 use Rattle.parts.proofs.Head as Head
 use Rattle.parts.proofs.Head.Laws as Head′
 use Rattle.parts.proofs.Core as Core
@@ -81,6 +83,9 @@ flags-row = array-row bool-row 5
 
 abbrev pub head-row : Row Head.the-row Head′.mir
 head-row = struct-row Head.the-type Head′.the-laws Head′.the-plain Head′.the-copy Head′.lowers
+
+abbrev pub transfer-row : Row Transfer.the-row Transfer′.mir
+transfer-row = struct-row Transfer.the-type Transfer′.the-laws Transfer′.the-plain Transfer′.the-copy Transfer′.lowers
 
 abbrev pub core-row : Row Core.the-row Core′.mir
 core-row = struct-row Core.the-type Core′.the-laws Core′.the-plain Core′.the-copy Core′.lowers

@@ -28,7 +28,7 @@ pub struct Located {
     pub position: u32,
 }
 
-// The memory may hold anything before: it is not read. A refused node number leaves a head too, of node 1 with identity numbers 0.
+// The memory may hold anything before: it is not read. A refused power-up leaves a head too, of node 1 with identity numbers 0 and names "?".
 #[no_mangle]
 pub extern "C" fn haybleater_power_up(head: &mut Head, setup: Setup) -> u8
     ensures { λ n. ⌜ PowersUp (setup .node) (setup .identity) (answered n (now (head .exit))) ⌝ }
@@ -43,7 +43,14 @@ pub extern "C" fn haybleater_receive(head: &mut Head, frame: Received) -> u8
     requires { ⌜ Valid (now head) ⌝ }
     ensures { λ n. ⌜ Receives (now (head .entry)) frame (answered n (now (head .exit))) ⌝ }
 {
-    let heard = hear::hear(head.core.nmt, head.core.device, head.line, frame);
+    let heard = hear::hear(
+        head.core.nmt,
+        head.core.device,
+        head.transfer,
+        head.line,
+        frame,
+    );
+    head.transfer = heard.transfer;
     match heard.way {
         hear::REPLIES => {
             let left = effect::reply(head.line, heard.reply);

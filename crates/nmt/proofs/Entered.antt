@@ -120,7 +120,7 @@ module _ (h : Head) (v : Valid h) where
   unfolding act settledTo
   enters g e =
       let due = entryMoments (communication c) (state g) in
-      ap {B = Head} (λ l. record { core = later g; line = joinsIn l (comes due (later g)) }) (stays g e)
+      ap {B = Head} (λ l. record { core = later g; transfer = h .transfer; line = joinsIn l (comes due (later g)) }) (stays g e)
 
   -- in Initialising none waits
   emptied : (r : Reset) → Valid (act false h (reset r)) → act false h (reset r) .line ≡ pad places []
@@ -128,7 +128,7 @@ module _ (h : Head) (v : Valid h) where
   emptied r w = w .line .shape ∙ ap (pad places) (none-waits (act false h (reset r)) w refl)
 
   abbrev with-line : Reset → List ℕ → Head
-  with-line r l = record { core = resetWith c (restored r (c .device .settings) (c .device .saved)); line = l }
+  with-line r l = record { core = resetWith c (restored r (c .device .settings) (c .device .saved)); transfer = h .transfer; line = l }
 
   pub resets : (r : Reset) → Valid (act false h (reset r))
       → let e = restartedBy (c .device .settings) (c .device .saved) (ofAll r) in

@@ -12,6 +12,7 @@ use Rattle.promises.specs.Histories.{Reachable}
 use Rattle.promises.specs.Valid.{Valid}
 use Rattle.text.specs.Lines.{longest}
 use Rattle.can.proofs as can
+use Rattle.names.proofs as names
 use Rattle.waiting.proofs as waiting
 use Rattle.position.proofs as position
 use Rattle.entries.proofs as entries
@@ -47,6 +48,15 @@ pub record Asked : Type 0 where
   pub can·long : AsksNothing can.long.ended can.long.Reads.Asked
   pub can·long-bytes : AsksNothing can.long_bytes.ended can.long_bytes.Reads.Asked
   pub can·bits : AsksNothing can.bits.ended can.bits.Reads.Asked
+  pub names·is-name : AsksNothing names.is_name.ended names.is_name.Reads.Asked
+  pub names·unknown : AsksNothing names.unknown.ended names.unknown.Reads.Asked
+  pub names·short : AsksNothing names.short.ended names.short.Reads.Asked
+  pub names·runs : AsksNothing names.runs.ended names.runs.Reads.Asked
+  pub names·started : AsksNothing names.started.ended names.started.Reads.Asked
+  pub names·toggle : AsksNothing names.toggle.ended names.toggle.Reads.Asked
+  pub names·named : AsksNothing names.named.ended names.named.Reads.Asked
+  pub names·segment : AsksNothing names.segment.ended names.segment.Reads.Asked
+  pub names·next : AsksNothing names.next.ended names.next.Reads.Asked
   pub waiting·none : AsksNothing waiting.none.ended waiting.none.Reads.Asked
   pub waiting·waits : AsksNothing waiting.waits.ended waiting.waits.Reads.Asked
   pub waiting·join : AsksNothing waiting.join.ended waiting.join.Reads.Asked
@@ -63,6 +73,7 @@ pub record Asked : Type 0 where
   pub position·position-of : AsksOnly position.position_of.ended (λ κs a. ValidProfile (a .0)) position.position_of.Reads.Asked
   pub position·preset-to : AsksOnly position.preset_to.ended (λ κs a. (ValidProfile (a .0)) × (a .1 .1 .0 < a .0 .range)) position.preset_to.Reads.Asked
   pub entries·Settings·factory : AsksNothing entries.Settings.factory.ended entries.Settings.factory.Reads.Asked
+  pub entries·name-of : AsksNothing entries.name_of.ended entries.name_of.Reads.Asked
   pub entries·table·find : AsksNothing entries.table.find.ended entries.table.find.Reads.Asked
   pub entries·table·row-at : AsksOnly entries.table.row_at.ended (λ κs a. a .0 < length table) entries.table.row_at.Reads.Asked
   pub entries·table·key : AsksNothing entries.table.key.ended entries.table.key.Reads.Asked
@@ -78,7 +89,10 @@ pub record Asked : Type 0 where
   pub replies·abort : AsksNothing replies.abort.ended replies.abort.Reads.Asked
   pub replies·confirm : AsksNothing replies.confirm.ended replies.confirm.Reads.Asked
   pub replies·shown : AsksNothing replies.shown.ended replies.shown.Reads.Asked
+  pub replies·segment : AsksNothing replies.segment.ended replies.segment.Reads.Asked
   pub requests·is-abort : AsksNothing requests.is_abort.ended requests.is_abort.Reads.Asked
+  pub requests·is-segment : AsksNothing requests.is_segment.ended requests.is_segment.Reads.Asked
+  pub requests·toggle : AsksNothing requests.toggle.ended requests.toggle.Reads.Asked
   pub requests·taken-apart : AsksNothing requests.taken_apart.ended requests.taken_apart.Reads.Asked
   pub serving·serve : AsksOnly serving.serve.ended (λ κs a. ValidProfile (a .0 .settings .profile)) serving.serve.Reads.Asked
   pub states·is-initialising : AsksNothing states.is_initialising.ended states.is_initialising.Reads.Asked

@@ -8,6 +8,7 @@ use Rattle.promises.specs.Promised.{PowersUp, Receives, Ticks, Samples, Slots}
 use Rattle.lent.specs.Questions.{stateCode, isGood, positionOf, anyWaits}
 use Rattle.lent.specs.Steps.{sentAs}
 use Rattle.can.proofs as can
+use Rattle.names.proofs as names
 use Rattle.waiting.proofs as waiting
 use Rattle.position.proofs as position
 use Rattle.entries.proofs as entries
@@ -43,6 +44,15 @@ pub record Outcomes : Type 0 where
   pub can·long : OneOutcome can.long.ended can.long.Reads.Learnt
   pub can·long-bytes : OneOutcome can.long_bytes.ended can.long_bytes.Reads.Learnt
   pub can·bits : OneOutcome can.bits.ended can.bits.Reads.Learnt
+  pub names·is-name : OneOutcome names.is_name.ended names.is_name.Reads.Learnt
+  pub names·unknown : OneOutcome names.unknown.ended names.unknown.Reads.Learnt
+  pub names·short : OneOutcome names.short.ended names.short.Reads.Learnt
+  pub names·runs : OneOutcome names.runs.ended names.runs.Reads.Learnt
+  pub names·started : OneOutcome names.started.ended names.started.Reads.Learnt
+  pub names·toggle : OneOutcome names.toggle.ended names.toggle.Reads.Learnt
+  pub names·named : OneOutcome names.named.ended names.named.Reads.Learnt
+  pub names·segment : OneOutcome names.segment.ended names.segment.Reads.Learnt
+  pub names·next : OneOutcome names.next.ended names.next.Reads.Learnt
   pub waiting·none : OneOutcome waiting.none.ended waiting.none.Reads.Learnt
   pub waiting·waits : OneOutcome waiting.waits.ended waiting.waits.Reads.Learnt
   pub waiting·join : OneOutcome waiting.join.ended waiting.join.Reads.Learnt
@@ -59,6 +69,7 @@ pub record Outcomes : Type 0 where
   pub position·position-of : OneOutcome position.position_of.ended position.position_of.Reads.Learnt
   pub position·preset-to : OneOutcome position.preset_to.ended position.preset_to.Reads.Learnt
   pub entries·Settings·factory : OneOutcome entries.Settings.factory.ended entries.Settings.factory.Reads.Learnt
+  pub entries·name-of : OneOutcome entries.name_of.ended entries.name_of.Reads.Learnt
   pub entries·table·find : OneOutcome entries.table.find.ended entries.table.find.Reads.Learnt
   pub entries·table·row-at : OneOutcome entries.table.row_at.ended entries.table.row_at.Reads.Learnt
   pub entries·table·key : OneOutcome entries.table.key.ended entries.table.key.Reads.Learnt
@@ -74,7 +85,10 @@ pub record Outcomes : Type 0 where
   pub replies·abort : OneOutcome replies.abort.ended replies.abort.Reads.Learnt
   pub replies·confirm : OneOutcome replies.confirm.ended replies.confirm.Reads.Learnt
   pub replies·shown : OneOutcome replies.shown.ended replies.shown.Reads.Learnt
+  pub replies·segment : OneOutcome replies.segment.ended replies.segment.Reads.Learnt
   pub requests·is-abort : OneOutcome requests.is_abort.ended requests.is_abort.Reads.Learnt
+  pub requests·is-segment : OneOutcome requests.is_segment.ended requests.is_segment.Reads.Learnt
+  pub requests·toggle : OneOutcome requests.toggle.ended requests.toggle.Reads.Learnt
   pub requests·taken-apart : OneOutcome requests.taken_apart.ended requests.taken_apart.Reads.Learnt
   pub serving·serve : OneOutcome serving.serve.ended serving.serve.Reads.Learnt
   pub states·is-initialising : OneOutcome states.is_initialising.ended states.is_initialising.Reads.Learnt

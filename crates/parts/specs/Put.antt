@@ -2,6 +2,7 @@
 use Prim.Native.Nat.{ℕ}
 use mathlib.Core.Bool.{Bool}
 use mathlib.Core.List.{List}
+use Rattle.names.specs.declared.Transfer.{Transfer}
 use Rattle.position.specs.declared.Profile.{Profile}
 use Rattle.entries.specs.declared.Communication.{Communication}
 use Rattle.entries.specs.declared.Device.{Device}
@@ -13,10 +14,13 @@ use Rattle.parts.specs.declared.Core.{Core}
 use Rattle.parts.specs.declared.Head.{Head}
 
 abbrev pub withLine : Head → List ℕ → Head
-withLine h l = record { line = l; core = h .core }
+withLine h l = record { line = l; transfer = h .transfer; core = h .core }
+
+abbrev pub withTransfer : Head → Transfer → Head
+withTransfer h t = record { line = h .line; transfer = t; core = h .core }
 
 abbrev pub withCore : Head → Core → Head
-withCore h c = record { line = h .line; core = c }
+withCore h c = record { line = h .line; transfer = h .transfer; core = c }
 
 abbrev pub withNmt : Head → Nmt → Head
 withNmt h s =

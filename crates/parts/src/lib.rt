@@ -3,6 +3,7 @@ use can::Bytes;
 use can::Frame;
 use entries::Device;
 use entries::Identity;
+use names::Transfer;
 use waiting::Line;
 
 // A state, named with its heartbeat code.
@@ -51,6 +52,7 @@ pub struct Core {
 #[repr(C)]
 pub struct Head {
     pub line: Line,
+    pub transfer: Transfer,
     pub core: Core,
 }
 

@@ -20,7 +20,7 @@ use Rattle.promises.specs.Meant.{not-booted}
 use Rattle.promises.specs.FiveSlots.{oneByte, BootUpWaits}
 use Rattle.promises.proofs.Nothing.{step-nothing}
 use Rattle.promises.proofs.Valid.{valid-step}
-use Rattle.promises.proofs.Unmeant.{unmeant}
+use Rattle.promises.proofs.Unmeant.{not-meant}
 use Rattle.promises.proofs.Slots.{answers, boots as boots-now, none-waits}
 use Rattle.promises.proofs.Meant.{core-step}
 use Rattle.promises.proofs.SameNode.{node-step}
@@ -28,8 +28,8 @@ use Rattle.promises.proofs.SameNode.{node-step}
 -- In Initialising no call but a slot leaves it.
 starting-stays : (h : Head) (c : Call) → Valid h → isInitialising (h .core) ≡ true → isSlot c ≡ false
     → isInitialising (step h c .core) ≡ true
-starting-stays h (receive f) v i s = rw (step-nothing h (receive f) refl (unmeant h f v (not-booted i))) i
-starting-stays h tick v i s = rw (step-nothing h tick refl (rw i)) i
+starting-stays h (receive f) v i s = ap (λ (g : Head). isInitialising (g .core)) (not-meant h f v (not-booted i)) ∙ i
+starting-stays h tick v i s = ap (λ (g : Head). isInitialising (g .core)) (step-nothing h tick refl (rw i) refl) ∙ i
 starting-stays h (sample Missing) v i s = rw (core-step h (sample Missing)) i
 starting-stays h (sample (Raw r)) v i s =
     rw (core-step h (sample (Raw r))) (by (λ a. isInitialising (acted (h .core) a) ≡ true) (ltb highestRaw r) (λ _. i) (λ _. i))

@@ -67,7 +67,7 @@ asked h f s r = found (lookup i j) refl
 
     found : (x : Found) → lookup i j ≡ x → readOf d o x ≡ some s
         → (p : ℕ) × Stands p i j × (dueTo h f ≡ dueShown (width (rowAt p)) s)
-    found (At p) q e = (p, entries-laws .finds i j .at p .0 q, read-due d o (f .bytes) p r q ∙ ap (dueShown (width (rowAt p))) (in-some e))
+    found (At p) q e = (p, entries-laws .finds i j .at p .0 q, read-due d o (h .transfer) (f .bytes) p r q ∙ ap (dueShown (width (rowAt p))) (in-some e))
     found NoSubIndex q e = absurd (let z : _≡_ {A = ℕ} 0 1 = cc in omega arith)
     found NoIndex q e = absurd (let z : _≡_ {A = ℕ} 0 1 = cc in omega arith)
 

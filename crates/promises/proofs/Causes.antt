@@ -3,19 +3,20 @@ use Prim.Native.Nat.{ℕ, _+_}
 use native.Mathlib.Omega.{arith}
 use lib.Dec.{eqb, leb}
 use mathlib.Core.Path.{_≡_, refl, sym, ap, _∙_}
-use mathlib.Core.Bool.{true, false, not, _&&_}
+use mathlib.Core.Bool.{true, false, not, _&&_, _||_}
 use borrow.Author.Tests.{eqb-true, eq-eqb, ne-eqb, leb-true, not-true}
 use Rattle.cases.proofs.Cases.{by, both}
 use Rattle.can.specs.declared.Received.{Received}
+use Rattle.can.specs.Frame.{refusalOf}
 use Rattle.sdo.specs.Reply.{replies, confirmed}
 use Rattle.sdo.specs.Service.{Due, answer}
 use Rattle.waiting.specs.Line as line
 use Rattle.waiting.specs.Line.{has}
 use Rattle.parts.specs.declared.Head.{Head}
-use Rattle.promises.specs.States.{operational, isIn, isLive, node, Command, noCommand, toEnter, toReset, commandOf}
+use Rattle.promises.specs.States.{operational, isIn, isInitialising, isLive, node, Command, noCommand, toEnter, toReset, commandOf}
 use Rattle.promises.specs.WaitingLine.{sdoReply}
 use Rattle.promises.specs.Acts.{Act, nothing, enter, reset, boot, idle, send, take, lose, time, sync, serve, acted}
-use Rattle.promises.specs.Calls.{receive, commanded, served, meant, step}
+use Rattle.promises.specs.Calls.{receive, isServed, commanded, served, isHeard, isAsked, meant, step}
 use Rattle.promises.specs.Valid.{Valid}
 use Rattle.promises.specs.Meant.{Heard, Commands, Requests, Synchronises, Writes, dueTo}
 use Rattle.promises.proofs.Waits.{reply-waiting}
@@ -51,6 +52,19 @@ module _ (h : Head) (f : Received) (v : Valid h) where
         r .free,
       )
 
+  -- it is one that is served
+  pub asked-by : Requests h f → isAsked h f ≡ true
+  asked-by r =
+      rw (
+        eq-eqb _ _ (r .hears .unrefused),
+        r .hears .heard,
+        eq-eqb (f .identifier) (0x600 + node (h .core)) (r .identifier),
+        eq-eqb _ _ (r .length),
+        r .live,
+        reply-waiting h v,
+        r .free,
+      )
+
   -- by what is due
   pub means : Requests h f → {y : Due} → dueTo h f ≡ y → meant h (receive f) ≡ served (answer (f .bytes) y)
   means r e = requests r ∙ ap (λ y. served (answer (f .bytes) y)) e
@@ -77,6 +91,13 @@ module _ (h : Head) (f : Received) (v : Valid h) where
         live = w .1;
         free = sym (reply-waiting h v) ∙ not-true _ (u .1);
       }
+
+  pub asked-so : isAsked h f ≡ true → Requests h f
+  asked-so q =
+      let a = both (isHeard h f && eqb (f .identifier) (0x600 + node (h .core))) (isServed h f) q in
+      let b = both (isHeard h f) (eqb (f .identifier) (0x600 + node (h .core))) (a .0) in
+      let c = both (eqb (refusalOf f) 0) (not (f .extended || f .remote || isInitialising (h .core))) (b .0) in
+      by-request (record { unrefused = eqb-true _ _ (c .0); heard = not-true _ (c .1) }) (eqb-true _ _ (b .1)) (a .1)
 
   pub by-sync : (x : Heard h f) → f .identifier ≡ 0x080 → (leb (f .length) 1 && isIn operational (h .core)) ≡ true → Synchronises h f
   by-sync x i t =

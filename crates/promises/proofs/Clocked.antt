@@ -14,9 +14,10 @@ use Rattle.sdo.specs.declared.reply.Effect.{Effect}
 use Rattle.sdo.specs.declared.reply.Effect.the-variants.{Nothing, Reply, Write}
 use Rattle.sdo.specs.declared.reply.Served.{Served}
 use Rattle.sdo.specs.Reply.{carriedOut}
-use Rattle.sdo.specs.Service.{Due, none, value, confirmation, abort, answer, due}
+use Rattle.sdo.specs.Service.{Due, none, value, confirmation, abort, upload, answer}
+use Rattle.sdo.specs.Upload.{dueIn}
 use Rattle.sdo.specs.Laws.{Told}
-use Rattle.sdo.proofs.Laws.{laws}
+use Rattle.sdo.proofs.UploadLaws.{told-in}
 use Rattle.parts.specs.declared.Timers.{Timers}
 use Rattle.parts.specs.declared.Core.{Core}
 use Rattle.parts.specs.declared.Head.{Head}
@@ -176,6 +177,7 @@ module _ (w : PdoNumber) (c : Core) (n : ℕ) where
     syncs-told q x (value u m) told y z = r o y z
     syncs-told q x (confirmation k v) told y z = syncs-written k v (unbarred told) y z
     syncs-told q x (abort code) told y z = r o y z
+    syncs-told q x (upload b u) told y z = r o y z
 
   syncs-act : (b : Bool) (a : Act) → Fits b c a → Syncs w c n → Syncs w (acted c a) (syncBy w c (marks a) n)
   syncs-act b nothing f r o y z = r o y z
@@ -194,9 +196,10 @@ module _ (w : PdoNumber) (c : Core) (n : ℕ) where
   syncs-act b time f r o y z = rw (clock-ticked s t (isIn operational c) w, o) (r o y z)
   syncs-act b sync f r o y z = rw (clock-synced s t w, y, z) (one-more _ _ _ (r o y z))
   syncs-act b (serve x) f r o y z =
-      let q = f .1 .0 in
-      let from-due = syncs-told o r q _ (due (c .device) (isIn operational c) q) (laws (c .device) (isIn operational c) q .told) in
-      subst (λ e. SyncsBy e) (ap (λ (u : Served). u .effect) (sym (f .1 .1))) from-due y z
+      let q = f .1 .1 .0 in
+      let from-due = syncs-told o r q _ (dueIn (c .device) (isIn operational c) (f .1 .0) q) (told-in (c .device) (isIn operational c) (f .1 .0) q)
+      in
+      subst (λ e. SyncsBy e) (ap (λ (u : Served). u .effect) (sym (f .1 .1 .1))) from-due y z
 
 module _ (w : PdoNumber) (h : Head) (n : ℕ) (v : Valid h) (x : Call) where
   same-begun : syncsAnew w h x ≡ begun w (h .core) (marks (meant h x))

@@ -191,7 +191,7 @@ module _ (n x : ℕ) (h : Head) (f : Received) (q : node (h .core) ≡ n) (e : c
         r .free,
       )
 
-  asks : n ≤ 127 → Asks n x f → waits h sdoReply ≡ false → Requests h f
+  pub asks : n ≤ 127 → Asks n x f → waits h sdoReply ≡ false → Requests h f
   asks low a free =
       record {
         hears =

@@ -20,9 +20,10 @@ use Rattle.dictionary.proofs.Accepted.{taken}
 use Rattle.position.specs.Position.{bit, scalingBit}
 use Rattle.sdo.specs.declared.reply.Effect.the-variants.{Write}
 use Rattle.sdo.specs.Reply.{carriedOut}
-use Rattle.sdo.specs.Service.{Due, none, value, confirmation, abort, answer, due}
+use Rattle.sdo.specs.Service.{Due, none, value, confirmation, abort, upload, answer}
+use Rattle.sdo.specs.Upload.{dueIn}
 use Rattle.sdo.specs.Laws.{Told, Confirmed}
-use Rattle.sdo.proofs.Laws.{laws}
+use Rattle.sdo.proofs.UploadLaws.{told-in}
 use Rattle.parts.specs.declared.Timers.{Timers}
 use Rattle.parts.specs.declared.Core.{Core}
 use Rattle.promises.specs.States.{operational, isIn, communication, PdoNumber, one, two, pdo, clock, atRest}
@@ -97,6 +98,7 @@ module _ (c : Core) (v : ValidTimers (communication c) (c .timers)) where
   told-valid o f x (value w n) t = v
   told-valid o f x (confirmation k n) t = write-valid k n (unbarred t)
   told-valid o f x (abort code) t = v
+  told-valid o f x (upload b u) t = v
 
   pub timers-act : (atSlot : Bool) (a : Act) → Fits atSlot c a → ValidDevice (c .device)
       → ValidTimers (communication (acted c a)) (acted c a .timers)
@@ -119,5 +121,6 @@ module _ (c : Core) (v : ValidTimers (communication c) (c .timers)) where
       timers-are (v .inhibit) (v .heartbeat) (synced-valid (v .clocks one)) (synced-valid (v .clocks two))
   timers-act b (serve s) f d =
       let o = isIn operational c in
-      let q = f .1 .0 in
-      rw (f .1 .1) (told-valid o q _ (due (c .device) o q) (laws (c .device) o q .told))
+      let t = f .1 .0 in
+      let q = f .1 .1 .0 in
+      rw (f .1 .1 .1) (told-valid o q _ (dueIn (c .device) o t q) (told-in (c .device) o t q))

@@ -6,33 +6,40 @@ use mathlib.Core.Path.{_≡_, refl, sym, ap, _∙_}
 use mathlib.Core.Logic.{_↔_, _⊎_, inl, inr, ⊎-elim}
 use mathlib.Core.Bool.{Bool, true, false, not, _&&_, _||_, or-false}
 use mathlib.Core.List.{[], _∷_, _++_}
-use borrow.Author.Tests.{leb-true, leb-false, le-leb, ltb-true, ltb-false, lt-ltb, le-ltb, not-true}
-use Rattle.cases.proofs.Cases.{by, both, true-false}
+use borrow.Author.Tests.{eqb-true, eqb-false, leb-true, leb-false, le-leb, ltb-true, ltb-false, lt-ltb, le-ltb, not-true}
+use Rattle.cases.proofs.Cases.{by, both, test, true-false}
+use Rattle.cases.proofs.Shared.{shared}
 use Rattle.can.specs.declared.Received.{Received}
 use Rattle.can.specs.Frame.{badIdentifier, badLength}
 use Rattle.cases.specs.Tests.{within}
-use Rattle.dictionary.specs.Valid.{ValidIdentity}
+use Rattle.names.specs.declared.Transfer.{Transfer}
+use Rattle.names.specs.Name.{isName}
+use Rattle.names.specs.Transfer.{noTransfer}
+use Rattle.entries.specs.declared.Identity.{Identity}
+use Rattle.entries.specs.Identity.{isNamed}
+use Rattle.dictionary.specs.Valid.{FitsIdentity}
+use Rattle.dictionary.proofs.Names.{arrays-are}
 use Rattle.sdo.specs.Reply.{replies}
 use Rattle.sdo.specs.Request.{aborting}
 use Rattle.sdo.specs.Service.{answer}
-use Rattle.sdo.proofs.Laws.{laws as sdo-laws}
+use Rattle.sdo.proofs.UploadLaws.{uploads}
 use Rattle.waiting.specs.Line as line
 use Rattle.waiting.specs.Line.{has}
 use Rattle.parts.specs.declared.Head.{Head}
 use Rattle.position.specs.Profile.{highestRaw}
 use Rattle.promises.specs.States.{operational, isIn, isLive, node, Command, noCommand, toEnter, toReset, commandOf}
 use Rattle.promises.specs.Acts.{Act, nothing}
-use Rattle.promises.specs.Calls.{receive, step, commanded, meant}
+use Rattle.promises.specs.Calls.{receive, step, commanded, isAsked, meant}
 use Rattle.promises.specs.Valid.{Valid}
-use Rattle.promises.specs.Meant.{Heard, Requests, MeantFor, to-enter, to-reset, to-synchronise, to-serve, dueTo}
+use Rattle.promises.specs.Meant.{Heard, Requests, MeantFor, to-enter, to-reset, to-synchronise, to-serve, to-end, dueTo}
 use Rattle.promises.specs.Histories.{powered}
-use Rattle.promises.specs.Demand1.{BadIdentifier, BadNode, Demand1}
+use Rattle.promises.specs.Demand1.{BadIdentifier, BadNode, NamesFit, Demand1}
 use Rattle.promises.proofs.Nothing.{step-nothing}
 use Rattle.promises.proofs.Refusals.{passes, fails, first-passes, second-passes, neither-passes, power-refusal}
 use Rattle.promises.proofs.Refusals.{frame-refused, sample-refused, node-refused, node-taken}
 use Rattle.promises.proofs.Hearing.{heard-by}
-use Rattle.promises.proofs.Unmeant.{not-meant}
-use Rattle.promises.proofs.Causes.{by-request, by-sync}
+use Rattle.promises.proofs.Unmeant.{kept, ended, not-meant}
+use Rattle.promises.proofs.Causes.{by-request, by-sync, asked-so}
 use Rattle.promises.proofs.Histories.{after-append, valid-reachable}
 
 -- A test and what it tests.
@@ -78,6 +85,45 @@ bad-node n = (worse (leb 1 n) (leb n 127) refl refl, ⊎-elim (λ l p. omega (ar
     worse true false l m bad = inr (leb-false n 127 m)
     worse true true l m bad = absurd (bad (leb-true 1 n l, leb-true n 127 m))
 
+not-tests : (t : Bool) → (not t ≡ true) ↔ (t ≡ false)
+not-tests true = (λ e. true-false (sym e), λ e. true-false e)
+not-tests false = (λ _. refl, λ _. refl)
+
+not-fails : (t : Bool) → (not t ≡ false) ↔ (t ≡ true)
+not-fails true = (λ _. refl, λ _. refl)
+not-fails false = (λ e. true-false e, λ e. true-false (sym e))
+
+node-fails : (n : ℕ) → (not (within 1 127 n) ≡ true) ↔ BadNode n
+node-fails n = ↔-then (not-tests (within 1 127 n)) (↔-then (↔-not (within 1 127 n) (node-tests n)) (bad-node n))
+
+names-test : (i : Identity) → (isNamed i ≡ true) ↔ NamesFit i
+names-test i = (
+  λ e.
+      let u = both (isName (i .name) && isName (i .hardware)) (isName (i .software)) e in
+      let w = both (isName (i .name)) (isName (i .hardware)) (u .0) in (
+        shared .inside 1 32 (i .name .length) .0 (w .0),
+        shared .inside 1 32 (i .hardware .length) .0 (w .1),
+        shared .inside 1 32 (i .software .length) .0 (u .1),
+      ),
+  λ f.
+      rw (
+        shared .inside 1 32 (i .name .length) .1 (f .0),
+        shared .inside 1 32 (i .hardware .length) .1 (f .1),
+        shared .inside 1 32 (i .software .length) .1 (f .2),
+      ),
+)
+
+none-or : (t : Transfer) → (t ≡ noTransfer) ⊎ (t ≡ noTransfer → ⊥)
+none-or t =
+    test (eqb (t .name) 0)
+    (λ e. test (eqb (t .segments) 0)
+    (λ g. inl (none-is (t .name) (t .segments) (eqb-true _ _ e) (eqb-true _ _ g)))
+    (λ g. inr (λ q. eqb-false _ _ g (ap (λ (u : Transfer). u .segments) q))))
+    (λ e. inr (λ q. eqb-false _ _ e (ap (λ (u : Transfer). u .name) q)))
+  where
+    none-is : (n s : ℕ) → n ≡ 0 → s ≡ 0 → _≡_ {A = Transfer} (record { name = n; segments = s }) noTransfer
+    none-is n s e g = rw (e, g)
+
 -- What a frame that is not meant for the head means: nothing.
 module _ (h : Head) (f : Received) (v : Valid h) where
   abbrev Due : Act → Type 0
@@ -91,7 +137,8 @@ module _ (h : Head) (f : Received) (v : Valid h) where
 
   as-request : Requests h f → replies (answer (f .bytes) (dueTo h f) .effect) ≡ true → MeantFor h f
   as-request r t =
-      to-serve r (not-true (aborting (f .bytes)) (sym (sdo-laws (h .core .device) (isIn operational (h .core)) (f .bytes) .replied) ∙ t))
+      let c = h .core in
+      to-serve r (not-true (aborting (f .bytes)) (sym (uploads (c .device) (isIn operational c) (h .transfer) (f .bytes) .replied) ∙ t))
 
   means : Due (meant h (receive f))
   means =
@@ -101,16 +148,33 @@ module _ (h : Head) (f : Received) (v : Valid h) where
       (λ t. by Due (replies (answer (f .bytes) (dueTo h f) .effect)) (λ u. inl (as-request (by-request h f v x i t) u)) (λ _. inr refl))
       (λ _. inr refl))
 
+  -- the client's abort ends a transfer, if one runs
+  as-abort : isAsked h f ≡ true → aborting (f .bytes) ≡ true → meant h (receive f) ≡ nothing → MeantFor h f ⊎ (step h (receive f) ≡ h)
+  as-abort q a m =
+      ⊎-elim (λ e. inr (step-nothing h (receive f) refl m (ended h f q a ∙ sym e))) (λ n. inl (to-end (asked-so h f v q) a n))
+      (none-or (h .transfer))
+
   meant-or-nothing : MeantFor h f ⊎ (step h (receive f) ≡ h)
-  meant-or-nothing = ⊎-elim (λ m. inl m) (λ n. inr (step-nothing h (receive f) refl n)) means
+  meant-or-nothing =
+      ⊎-elim (λ m. inl m)
+      (λ n. test (isAsked h f)
+      (λ q. test (aborting (f .bytes)) (λ a. as-abort q a n) (λ a. inl (to-serve (asked-so h f v q) a)))
+      (λ q. inr (step-nothing h (receive f) refl n (kept h f q n))))
+      means
 
 pub demand1 : Demand1
 demand1 =
     record {
       starts = λ p. record { start = p; calls = []; so = refl };
-      takes-any = λ n i a b c d.
-          let fits : ValidIdentity i =
-          record { vendor = omega (arith, a); product = omega (arith, b); revision = omega (arith, c); serial = omega (arith, d) }
+      takes-any = λ n i a b c d x y z.
+          let fits : FitsIdentity i =
+          record {
+            vendor = omega (arith, a);
+            product = omega (arith, b);
+            revision = omega (arith, c);
+            serial = omega (arith, d);
+            arrays = λ k. arrays-are i k (x, y, z);
+          }
           in
           (record { number = n; identity = i; fits = fits }, refl, refl);
       goes-on = λ h c r.
@@ -133,8 +197,15 @@ demand1 =
       takes-missing = λ h. refl;
       gives-4 =
           λ n i. rw (power-refusal n i)
-          (↔-then (fails 0 4 refl (within 1 127 n)) (↔-then (↔-not (within 1 127 n) (node-tests n)) (bad-node n)));
-      takes-node = λ n i. rw (power-refusal n i) (↔-then (passes 0 4 refl (within 1 127 n)) (node-tests n));
+          (↔-then (first-passes 4 5 0 refl refl refl (not (within 1 127 n)) (not (isNamed i))) (node-fails n));
+      gives-5 =
+          λ n i. rw (power-refusal n i)
+          (↔-then (second-passes 4 5 0 refl refl refl (not (within 1 127 n)) (not (isNamed i)))
+          (↔-both (↔-not (not (within 1 127 n)) (node-fails n)) (↔-then (not-tests (isNamed i)) (↔-not (isNamed i) (names-test i)))));
+      takes-node =
+          λ n i. rw (power-refusal n i)
+          (↔-then (neither-passes 4 5 0 refl refl refl (not (within 1 127 n)) (not (isNamed i)))
+          (↔-both (↔-then (not-fails (within 1 127 n)) (node-tests n)) (↔-then (not-fails (isNamed i)) (names-test i))));
       frame-refused = frame-refused;
       sample-refused = sample-refused;
       node-refused = node-refused;

@@ -11,6 +11,8 @@ use Rattle.promises.proofs.PassedOver.{passed-over}
 use Rattle.promises.proofs.Emergency.{emergency-so}
 use Rattle.promises.proofs.Service.{serves}
 use Rattle.promises.proofs.Replies.{answers}
+use Rattle.promises.proofs.Transfers.{transfers}
+use Rattle.promises.proofs.NamesRead.{names-read}
 use Rattle.promises.proofs.Readings.{tells}
 use Rattle.promises.proofs.Positions.{positioned}
 use Rattle.promises.proofs.ErrorList.{error-list}
@@ -40,6 +42,8 @@ demand2 =
       printed = printed;
       gets-what-is-due = serves;
       answers = answers;
+      transfers = transfers;
+      names-read = names-read;
       served-rightly = served-rightly;
       positioned = positioned;
       by-entries = by-entries;

@@ -10,7 +10,7 @@ use Rattle.position.specs.Profile.{highestRaw}
 use Rattle.entries.specs.declared.Device.{Device}
 use Rattle.entries.specs.declared.Reading.{Reading}
 use Rattle.dictionary.specs.Valid.{ValidSettings, ValidDevice}
-use Rattle.sdo.proofs.Laws.{laws}
+use Rattle.sdo.proofs.UploadLaws.{uploads}
 use Rattle.parts.specs.declared.Core.{Core}
 use Rattle.promises.specs.States.{operational, isIn, Reset, ofNode, ofCommunication, restored}
 use Rattle.promises.specs.WaitingLine.{emergency, sdoReply, heartbeat, tpdo}
@@ -69,4 +69,4 @@ device-act b c (take r) f v = sensed-valid v _ _ f (λ e. true-false e) (v .erro
 device-act b c lose f v = sensed-valid v _ _ (omega arith) (λ _. refl) (few-errors v)
 device-act b c time f v = v
 device-act b c sync f v = v
-device-act b c (serve s) f v = rw (f .1 .1) (laws (c .device) (isIn operational c) (f .1 .0) .valid v)
+device-act b c (serve s) f v = rw (f .1 .1 .1) (uploads (c .device) (isIn operational c) (f .1 .0) (f .1 .1 .0) .valid v)

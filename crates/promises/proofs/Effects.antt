@@ -8,6 +8,7 @@ use mathlib.Core.Option.{Option, none, some}
 use borrow.Author.Tests.{eqb-false, ne-eqb}
 use Rattle.cases.proofs.Cases.{neither}
 use Rattle.can.specs.declared.Received.{Received}
+use Rattle.names.specs.declared.Transfer.{Transfer}
 use Rattle.entries.specs.declared.Device.{Device}
 use Rattle.entries.specs.declared.table.Found.the-variants.{At}
 use Rattle.entries.specs.Table.{keyOf, lookup}
@@ -17,22 +18,22 @@ use Rattle.dictionary.specs.Reads.{readOf, reads}
 use Rattle.dictionary.specs.Writes.{written}
 use Rattle.dictionary.specs.Effects.{given, effects, anew, readBack}
 use Rattle.dictionary.proofs.Effects.{effect-laws}
-use Rattle.sdo.specs.declared.reply.Effect.the-variants.{Reply}
 use Rattle.sdo.specs.Request.{indexOf, subOf}
-use Rattle.sdo.specs.Reply.{confirmed}
+use Rattle.sdo.specs.Reply.{confirmed, segmented}
 use Rattle.sdo.specs.Service.{confirmation, answer}
 use Rattle.sdo.specs.Laws.{Confirmed, Told}
-use Rattle.sdo.proofs.Laws.{laws as sdo-laws}
+use Rattle.sdo.proofs.UploadLaws.{told-in}
 use Rattle.waiting.specs.Line.{has}
 use Rattle.parts.specs.declared.Head.{Head}
+use Rattle.parts.specs.Put.{withTransfer}
 use Rattle.promises.specs.States.{operational, isIn}
 use Rattle.promises.specs.Acts.{serve, settledTo, act}
-use Rattle.promises.specs.Calls.{receive, meant, step}
+use Rattle.promises.specs.Calls.{receive, meant, transferAfter, step}
 use Rattle.promises.specs.Valid.{Valid}
 use Rattle.promises.specs.Meant.{Requests, dueTo}
 use Rattle.promises.specs.Effects.{OnlyReplied, Effects, Served, ServedRightly}
-use Rattle.promises.proofs.Nothing.{step-nothing}
-use Rattle.promises.proofs.Causes.{means}
+use Rattle.promises.proofs.Nothing.{step-but}
+use Rattle.promises.proofs.Causes.{asked-by, means}
 use Rattle.promises.proofs.Histories.{valid-reachable}
 use Rattle.promises.proofs.Restarts.{counts}
 use Rattle.promises.proofs.ReplyJoins.{only-reply, write-line, write-waits}
@@ -52,7 +53,7 @@ pub told : (h : Head) (f : Received) {k v : ℕ} → dueTo h f ≡ confirmation 
 told h f e =
     let d = h .core .device in
     let o = isIn operational (h .core) in
-    subst (Told d o (f .bytes) (lookup (indexOf (f .bytes)) (subOf (f .bytes)))) e (sdo-laws d o (f .bytes) .told)
+    subst (Told d o (f .bytes) (lookup (indexOf (f .bytes)) (subOf (f .bytes)))) e (told-in d o (h .transfer) (f .bytes))
 
 module _ (h : Head) (f : Received) (valid : Valid h) (r : Requests h f) where
   abbrev d : Device
@@ -61,13 +62,17 @@ module _ (h : Head) (f : Received) (valid : Valid h) (r : Requests h f) where
   abbrev o : Bool
   o = isIn operational (h .core)
 
+  -- a request that is served leaves the transfer that its answer says
+  leaves : transferAfter h (receive f) ≡ answer (f .bytes) (dueTo h f) .transfer
+  leaves = rw (asked-by h f valid r)
+
   -- by a reply of these bytes, which has no other effect
-  replied : (bytes : List ℕ) → answer (f .bytes) (dueTo h f) .bytes ≡ bytes
-      → meant h (receive f) ≡ serve (record { bytes = bytes; effect = Reply })
+  replied : (bytes : List ℕ) (t : Transfer) → answer (f .bytes) (dueTo h f) .bytes ≡ bytes
+      → meant h (receive f) ≡ serve (segmented bytes t)
       → OnlyReplied f h (step h (receive f))
   unfolding act settledTo
-  replied bytes e m =
-      let after : OnlyReplied f h (act false h (serve (record { bytes = bytes; effect = Reply }))) =
+  replied bytes t e m =
+      let after : OnlyReplied f h (withTransfer (act false h (serve (segmented bytes t))) (transferAfter h (receive f))) =
       record {
         entries = λ i j. refl;
         device = refl;
@@ -75,9 +80,10 @@ module _ (h : Head) (f : Received) (valid : Valid h) (r : Requests h f) where
         announced = refl;
         timers = refl;
         reply = sym e;
-        line = only-reply h valid (r .live) (r .free) bytes;
+        transfer = leaves;
+        line = only-reply h valid (r .live) (r .free) bytes t;
       } in
-      subst (λ a. OnlyReplied f h (act false h a)) (sym m) after
+      subst (λ a. OnlyReplied f h (withTransfer (act false h a) (transferAfter h (receive f)))) (sym m) after
 
   module _ (k v : ℕ) (e : dueTo h f ≡ confirmation k v) where
     abbrev its : Confirmed d (f .bytes) (lookup (indexOf (f .bytes)) (subOf (f .bytes))) k v
@@ -97,7 +103,7 @@ module _ (h : Head) (f : Received) (valid : Valid h) (r : Requests h f) where
     accepted : Effects f k v h (step h (receive f))
     unfolding act settledTo written
     accepted =
-        let after : Effects f k v h (act false h (serve (confirmed (f .bytes) k v))) =
+        let after : Effects f k v h (withTransfer (act false h (serve (confirmed (f .bytes) k v))) (transferAfter h (receive f))) =
         record {
           entries = reads-anew;
           others = λ i j u. reads-anew i j ∙ untouched (effects d o k v) (keyOf i j) (reads d o i j) u;
@@ -111,17 +117,20 @@ module _ (h : Head) (f : Received) (valid : Valid h) (r : Requests h f) where
           inhibit = refl;
           counts = counts (h .core) k v;
           reply = refl;
+          transfer = leaves ∙ ap (λ y. answer (f .bytes) y .transfer) e;
           line = write-line h valid (r .live) (r .free) (f .bytes) k v;
           who-waits = write-waits h valid (r .live) (r .free) (f .bytes) k v;
         } in
-        subst (λ a. Effects f k v h (act false h a)) (sym (means h f valid r e)) after
+        subst (λ a. Effects f k v h (withTransfer (act false h a) (transferAfter h (receive f)))) (sym (means h f valid r e)) after
 
   serves : Served h f
   serves =
       record {
-        aborted = λ code e. replied _ (ap (λ y. answer (f .bytes) y .bytes) e) (means h f valid r e);
-        read = λ width n e. replied _ (ap (λ y. answer (f .bytes) y .bytes) e) (means h f valid r e);
-        client-aborts = λ e. step-nothing h (receive f) refl (means h f valid r e);
+        aborted = λ code e. replied _ _ (ap (λ y. answer (f .bytes) y .bytes) e) (means h f valid r e);
+        read = λ width n e. replied _ _ (ap (λ y. answer (f .bytes) y .bytes) e) (means h f valid r e);
+        segment = λ b t e. replied _ _ (ap (λ y. answer (f .bytes) y .bytes) e) (means h f valid r e);
+        client-aborts = λ e.
+            step-but h (receive f) refl (means h f valid r e) ∙ ap (withTransfer h) (leaves ∙ ap (λ y. answer (f .bytes) y .transfer) e);
         accepted = accepted;
       }
 

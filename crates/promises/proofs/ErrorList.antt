@@ -21,7 +21,7 @@ use Rattle.dictionary.specs.Laws.{Shows}
 use Rattle.dictionary.proofs.ReadBack.{emptied}
 use Rattle.dictionary.proofs.Laws.{shows}
 use Rattle.sdo.specs.Reply.{carriedOut}
-use Rattle.sdo.specs.Service.{Due, none, value, confirmation, abort, answer}
+use Rattle.sdo.specs.Service.{Due, none, value, confirmation, abort, upload, answer}
 use Rattle.parts.specs.declared.Head.{Head}
 use Rattle.parts.specs.declared.Sensor.{Sensor}
 use Rattle.parts.specs.declared.Sensor.the-variants.{Missing, Raw}
@@ -71,6 +71,7 @@ errors-due d f none n = refl
 errors-due d f (value w x) n = refl
 errors-due d f (confirmation k v) n = rw n
 errors-due d f (abort c) n = refl
+errors-due d f (upload b t) n = refl
 
 emptied-errors : (d : Device) (v : ℕ) → written d errorCountKey v .errors ≡ 0
 unfolding written

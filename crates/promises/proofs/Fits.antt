@@ -8,7 +8,9 @@ use borrow.Author.Tests.{ltb-false}
 use Rattle.cases.proofs.Cases.{by, both}
 use Rattle.can.specs.declared.Received.{Received}
 use Rattle.sdo.specs.Reply.{replies}
-use Rattle.sdo.specs.Service.{answer, due}
+use Rattle.names.specs.declared.Transfer.{Transfer}
+use Rattle.sdo.specs.Service.{answer}
+use Rattle.sdo.specs.Upload.{dueIn}
 use Rattle.waiting.specs.Line as line
 use Rattle.waiting.specs.Line.{has, first}
 use Rattle.parts.specs.declared.Core.{Core}
@@ -33,8 +35,8 @@ Fits atSlot c (take r) = r ≤ highestRaw
 Fits atSlot c lose = Unit {0}
 Fits atSlot c time = isInitialising c ≡ false
 Fits atSlot c sync = isIn operational c ≡ true
--- the answer to some bytes
-Fits atSlot c (serve s) = (isLive c ≡ true) × ((f : List ℕ) × (s ≡ answer f (due (c .device) (isIn operational c) f)))
+-- the answer to some bytes, in some transfer
+Fits atSlot c (serve s) = (isLive c ≡ true) × ((t : Transfer) × ((f : List ℕ) × (s ≡ answer f (dueIn (c .device) (isIn operational c) t f))))
 
 module _ (h : Head) where
   abbrev c : Core
@@ -55,8 +57,8 @@ module _ (h : Head) where
   fits-request f =
       let free = not (has line.sdoReply (h .line)) in
       by Here (eqb (f .length) 8 && isLive c && free)
-      (λ t. by Here (replies (answer (f .bytes) (due (c .device) (isIn operational c) (f .bytes)) .effect))
-      (λ _. (both (eqb (f .length) 8) (isLive c) (both (eqb (f .length) 8 && isLive c) free t .0) .1, (f .bytes, refl)))
+      (λ t. by Here (replies (answer (f .bytes) (dueIn (c .device) (isIn operational c) (h .transfer) (f .bytes)) .effect))
+      (λ _. (both (eqb (f .length) 8) (isLive c) (both (eqb (f .length) 8 && isLive c) free t .0) .1, (h .transfer, (f .bytes, refl))))
       (λ _. refl))
       (λ _. refl)
 

@@ -76,7 +76,7 @@ sooner l e le =
       gone = l .gone;
     }
 
-by-the-fifth : (h : Head) (cs : List Call) (k : Kind) → Valid h → waits h k ≡ true → places ≤ slots cs → LeavesBy places h cs k
+pub by-the-fifth : (h : Head) (cs : List Call) (k : Kind) → Valid h → waits h k ≡ true → places ≤ slots cs → LeavesBy places h cs k
 by-the-fifth h cs k v w enough =
     let l : trace.LeavesBy machine places (number k) h cs = demand3 machine sound h (number k) cs v w (rw (slots-slots cs) enough) in
     let there : trace.runs machine h (l .before) ≡ after h (l .before) = runs-after (l .before) h in

@@ -11,7 +11,7 @@ use Rattle.entries.specs.declared.Settings.{Settings}
 use Rattle.entries.specs.Keys.{saveKey, loadKey}
 use Rattle.dictionary.specs.Writes.{written}
 use Rattle.sdo.specs.Reply.{carriedOut}
-use Rattle.sdo.specs.Service.{Due, none, value, confirmation, abort, answer}
+use Rattle.sdo.specs.Service.{Due, none, value, confirmation, abort, upload, answer}
 use Rattle.parts.specs.declared.Head.{Head}
 use Rattle.promises.specs.Calls.{Call, receive, step}
 use Rattle.promises.specs.Valid.{Valid}
@@ -32,6 +32,7 @@ module _ (h : Head) (f : Received) (r : Requests h f) where
   settings-served (value w m) e = inl refl
   settings-served (confirmation k v) e = inr (inl (k, v, record { requests = r; accepted = e }))
   settings-served (abort code) e = inl refl
+  settings-served (upload b t) e = inl refl
 
   saved-served : (y : Due) → dueTo h f ≡ y → Leaves (λ d. d .saved) Saves y
   unfolding written
@@ -45,6 +46,7 @@ module _ (h : Head) (f : Received) (r : Requests h f) where
       (λ t. inr (v, inr (record { requests = r; accepted = e ∙ ap (λ x. confirmation x v) (eqb-true k loadKey t) })))
       (λ _. inl refl))
   saved-served (abort code) e = inl refl
+  saved-served (upload b t) e = inl refl
 
 settings-altered : (h : Head) (c : Call) (d : Device) → Altered h c d → (d .settings ≡ h .core .device .settings) ⊎ Alters h c
 settings-altered h _ _ (heard f) = inl refl

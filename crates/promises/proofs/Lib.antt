@@ -59,6 +59,9 @@ pub mod Parameters
 pub mod Codes
 pub mod Emergency
 pub mod Starts
+pub mod Transfers
+pub mod Arrivals
+pub mod NamesRead
 pub mod Signatures
 pub mod Staying
 pub mod ByEntries

@@ -1,14 +1,14 @@
 -- What a call with an effect does.
+use Prim.Native.Nat.{_+_}
 use lib.Dec.{eqb, ltb, leb}
 use mathlib.Core.Path.{_≡_, refl, sym, ap, _∙_}
 use mathlib.Core.Bool.{Bool, true, false, not, _&&_, Bool·beq, and-false}
 use borrow.Author.Tests.{eqb-true, eq-eqb}
-use Rattle.cases.proofs.Cases.{by, both, true-false}
+use Rattle.cases.proofs.Cases.{by, true-false}
 use Rattle.can.specs.declared.Received.{Received}
 use Rattle.sdo.specs.declared.reply.Effect.{Effect}
 use Rattle.sdo.specs.declared.reply.Effect.the-variants.{Nothing, Reply, Write}
-use Rattle.waiting.specs.Line as line
-use Rattle.waiting.specs.Line.{has, first}
+use Rattle.waiting.specs.Line.{first}
 use Rattle.waiting.specs.Places.{waiting}
 use Rattle.parts.specs.declared.Core.{Core}
 use Rattle.parts.specs.declared.Head.{Head}
@@ -18,7 +18,7 @@ use Rattle.promises.specs.States.{CommandedState, operational, code, sta
 use Rattle.promises.specs.States.{good, Reset, Command, noCommand, toEnter, toReset, commandOf}
 use Rattle.promises.specs.WaitingLine.{Kind, emergency, sdoReply, heartbeat, tpdo, number, mayStay, mayJoin}
 use Rattle.promises.specs.Acts.{Act, send, acted, momentsOf, timersAfter, settledTo, act}
-use Rattle.promises.specs.Calls.{Call, receive, tick, sample, slot, commanded, meant, step}
+use Rattle.promises.specs.Calls.{Call, receive, tick, sample, slot, isServed, commanded, meant, step}
 use Rattle.promises.specs.Valid.{waits, Valid}
 use Rattle.promises.specs.Meant.{Commands}
 use Rattle.promises.specs.Resets.{Restarted}
@@ -53,7 +53,7 @@ inhibit-after c Nothing = refl
 inhibit-after c Reply = refl
 inhibit-after c (Write k v) = refl
 
--- while a reply waits its bytes stay
+-- an act that leaves the reply's bytes
 module _ (c : Core) where
   abbrev Same : Act → Type 0
   Same a = acted c a .reply ≡ c .reply
@@ -69,26 +69,39 @@ module _ (c : Core) where
   reply-commanded (toEnter g) = by Same (isIn g c) (λ _. refl) (λ _. refl)
   reply-commanded (toReset r) = refl
 
-module _ (h : Head) (v : Valid h) (w : waits h sdoReply ≡ true) where
-  reply-stays : (x : Call) → Same (h .core) (meant h x)
-  reply-stays (receive f) =
+-- The reply's bytes stay at every call but a request that is served,
+module _ (h : Head) where
+  abbrev pub Unserved : Call → Type 0
+  Unserved (receive f) = f .identifier ≡ 0x600 + node (h .core) → isServed h f ≡ false
+  Unserved tick = Unit {0}
+  Unserved (sample s) = Unit {0}
+  Unserved slot = Unit {0}
+
+  reply-stays : (x : Call) → Unserved x → Same (h .core) (meant h x)
+  reply-stays (receive f) u =
       heard-by h f (Same (h .core)) refl (λ _ _. reply-commanded (h .core) (commandOf (node (h .core)) f))
       (λ _ _. by (Same (h .core)) (leb (f .length) 1 && isIn operational (h .core)) (λ _. refl) (λ _. refl))
-      (λ _ _. by (Same (h .core)) (eqb (f .length) 8 && isLive (h .core) && not (has line.sdoReply (h .line)))
-      (λ e. true-false (sym (both (eqb (f .length) 8 && isLive (h .core)) (not (has line.sdoReply (h .line))) e .1) ∙ unserved))
-      (λ _. refl))
-    where
-      unserved : not (has line.sdoReply (h .line)) ≡ false
-      unserved = rw (reply-waiting h v, w)
-  reply-stays tick = by (Same (h .core)) (isInitialising (h .core)) (λ _. refl) (λ _. refl)
-  reply-stays (sample Missing) = refl
-  reply-stays (sample (Raw r)) = by (Same (h .core)) (ltb highestRaw r) (λ _. refl) (λ _. refl)
-  reply-stays slot =
+      (λ _ i. by (Same (h .core)) (isServed h f) (λ e. true-false (sym e ∙ u i)) (λ _. refl))
+  reply-stays tick u = by (Same (h .core)) (isInitialising (h .core)) (λ _. refl) (λ _. refl)
+  reply-stays (sample Missing) u = refl
+  reply-stays (sample (Raw r)) u = by (Same (h .core)) (ltb highestRaw r) (λ _. refl) (λ _. refl)
+  reply-stays slot u =
       by (Same (h .core)) (isInitialising (h .core)) (λ _. refl)
       (λ _. sent-as (Same (h .core)) (first (h .line)) refl (reply-sent (h .core)))
 
+  pub reply-kept : (x : Call) → Unserved x → step h x .core .reply ≡ h .core .reply
+  reply-kept x u = ap (λ c. c .reply) (core-step h x) ∙ reply-stays x u
+
+-- so at every call while a reply waits.
+module _ (h : Head) (v : Valid h) (w : waits h sdoReply ≡ true) where
+  unserved : (x : Call) → Unserved h x
+  unserved (receive f) = λ _. rw (reply-waiting h v, w, and-false (eqb (f .length) 8 && isLive (h .core)))
+  unserved tick = tt
+  unserved (sample s) = tt
+  unserved slot = tt
+
   pub reply-fixed : (x : Call) → step h x .core .reply ≡ h .core .reply
-  reply-fixed x = ap (λ c. c .reply) (core-step h x) ∙ reply-stays x
+  reply-fixed x = reply-kept h x (unserved x)
 
 beq-self : (b : Bool) → Bool·beq b b ≡ true
 beq-self true = refl

@@ -15,11 +15,10 @@ use Rattle.entries.specs.declared.Pdo.{Pdo}
 use Rattle.dictionary.specs.Valid.{ValidPdo}
 use Rattle.sdo.specs.Request.{aborting}
 use Rattle.sdo.specs.Service.{answer}
-use Rattle.sdo.proofs.Laws.{laws as sdo-laws}
+use Rattle.sdo.proofs.UploadLaws.{uploads}
 use Rattle.waiting.specs.Line.{first}
 use Rattle.parts.specs.declared.Core.{Core}
 use Rattle.parts.specs.declared.Head.{Head}
-use Rattle.parts.specs.declared.Answer.{Answer}
 use Rattle.parts.specs.declared.Sensor.the-variants.{Missing, Raw}
 use Rattle.promises.specs.States.{operational, stopped, preOperational, isIn, isInitialising}
 use Rattle.promises.specs.States.{communication, PdoNumber, one, two, clock}
@@ -29,7 +28,7 @@ use Rattle.promises.specs.Acts.{Act, nothing, enter, reset, boot, idle, 
 use Rattle.promises.specs.Acts.{sync, serve, acted, emergencyOnly, momentsOf}
 use Rattle.promises.specs.Calls.{Call, receive, tick, sample, slot, isSlot, meant, step}
 use Rattle.promises.specs.Valid.{waits, Valid}
-use Rattle.promises.specs.Meant.{client-abort, dueTo}
+use Rattle.promises.specs.Meant.{dueTo}
 use Rattle.promises.specs.Histories.{after, PowerUp, powered}
 use Rattle.promises.specs.Gap.{alerts}
 use Rattle.promises.specs.Moments.{countBy, since, Counts, countsAfter, Ready, OnEvents, OnSyncs, pdoOf}
@@ -39,10 +38,10 @@ use Rattle.promises.proofs.KindNumbers.{sent-as}
 use Rattle.promises.proofs.Waits.{sends, waits-act}
 use Rattle.promises.proofs.States.{not-operational}
 use Rattle.promises.proofs.Valid.{valid-step}
-use Rattle.promises.proofs.Unmeant.{unmeant}
+use Rattle.promises.proofs.Unmeant.{aborted}
 use Rattle.promises.proofs.Causes.{Cause, cause, requests}
 use Rattle.promises.proofs.Conditions.{Alerts, alerts as alerts-so, shows}
-use Rattle.promises.proofs.Histories.{valid-after, valid-powered}
+use Rattle.promises.proofs.Histories.{at-power-up, valid-after, valid-powered}
 use Rattle.promises.proofs.Remainders.{its-turn, in-turn}
 use Rattle.promises.proofs.Tested.{is-written, is-entry, is-sync, entered, synchronised}
 use Rattle.promises.proofs.Beats.{Beats, beats-step}
@@ -106,7 +105,7 @@ module _ (h : Head) (n : Counts) (v : Valid h) (kept : Kept (h .core) n) where
   joins x emergency (alerting a) = valid-step h x v .urgent (rw (a .live, a .is-on, a .uninhibited, a .differs))
   joins (receive f) sdoReply (replies r a) =
       let m : meant h (receive f) ≡ serve (answer (f .bytes) (dueTo h f)) =
-      requests h f v r ∙ rw (sdo-laws (c .device) (isIn operational c) (f .bytes) .replied, a) in
+      requests h f v r ∙ rw (uploads (c .device) (isIn operational c) (h .transfer) (f .bytes) .replied, a) in
       joined (receive f) sdoReply m refl (r .live)
   joins tick heartbeat (beats i e) =
       let m : meant h tick ≡ time = rw i in
@@ -174,7 +173,7 @@ module _ (h : Head) (n : Counts) (v : Valid h) (kept : Kept (h .core) n) where
   by-frame f (serve s) x e emergency o m y = true-false o
   by-frame f (serve s) x e sdoReply o m y =
       replies (x .0) (test (aborting (f .bytes))
-      (λ t. never (ap replying e) (ap replying (unmeant h f v (client-abort (x .0 .identifier) t)))) (λ t. t))
+      (λ t. never (ap replying e) (ap replying (aborted h f (x .0 .identifier) t))) (λ t. t))
     where
       replying : Act → Bool
       replying a = momentsOf c a sdoReply
@@ -228,7 +227,7 @@ kept-since anew counts P next (x ∷ cs) h n v r =
     kept-since anew counts P next cs (step h x) (countBy anew counts h x n) (valid-step h x v) (next h n v x r)
 
 starts : (p : PowerUp) → isInitialising (powered p .core) ≡ true
-starts p = by (λ (a : Answer). isInitialising (a .head .core) ≡ true) (within 1 127 (p .number)) (λ _. refl) (λ _. refl)
+starts p = at-power-up (λ (h : Head). isInitialising (h .core) ≡ true) (λ n i. refl) p
 
 counts-kept : (p : PowerUp) (cs : List Call) → Kept (after (powered p) cs .core) (countsAfter p cs)
 counts-kept p cs =

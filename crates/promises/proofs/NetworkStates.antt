@@ -71,5 +71,5 @@ network-states =
       starts = at-power-up (λ h. h .core .nmt ≡ initialising) (λ _ _. refl);
       enters = λ h r. entered h (valid-reachable h r);
       only-so = λ h r. only-so h (valid-reachable h r);
-      timers-stand = λ h i. step-nothing h tick refl (rw i);
+      timers-stand = λ h i. step-nothing h tick refl (rw i) refl;
     }

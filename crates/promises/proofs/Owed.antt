@@ -21,11 +21,11 @@ use Rattle.promises.specs.States.{operational, stopped, preOperational, 
 use Rattle.promises.specs.States.{node, Command, noCommand, toEnter, toReset, commandOf}
 use Rattle.promises.specs.WaitingLine.{sdoReply, number}
 use Rattle.promises.specs.Acts.{Act, boot, idle, send, acted, frameBy}
-use Rattle.promises.specs.Calls.{Call, receive, tick, sample, slot, isSlot, meant, step, isFrame, frameIn, slotAnswer}
+use Rattle.promises.specs.Calls.{Call, receive, tick, sample, slot, isSlot, isHeard, meant, step, isFrame, frameIn, slotAnswer}
 use Rattle.promises.specs.Valid.{waits, Valid}
 use Rattle.promises.specs.Meant.{Commands}
 use Rattle.promises.specs.Histories.{after}
-use Rattle.promises.specs.Service.{replyDue, isHeard, isRequest, isAnswered, sendsReply}
+use Rattle.promises.specs.Service.{replyDue, Replied, isRequest, isAnswered, sendsReply}
 use Rattle.promises.specs.Service.{takesReply, withdrawsReply, owedBy, owed, pending}
 use Rattle.promises.specs.Withdrawals.{Withdrawal, resets, stops}
 use Rattle.promises.specs.FiveSlots.{Sends}
@@ -39,6 +39,11 @@ use Rattle.promises.proofs.Departures.{sends-it, sent-gone, withdrawn-g
 use Rattle.promises.proofs.Known.{only-reply}
 use Rattle.promises.proofs.Halts.{Halts, stays-live, HaltedBy, halted}
 use Rattle.promises.proofs.Service.{JoinsNot, heard-as, is-request, gets-what-is-due, unanswered}
+
+-- a reply that joins waits
+pub replied-waits : (h : Head) (f : Received) → {a : Head} → Replied h f a → waits a sdoReply ≡ true
+replied-waits h f r =
+    rw (r .joins, has-append (number sdoReply) (r .ahead) (number sdoReply ∷ [])) (or-true (has (number sdoReply) (r .ahead)))
 
 -- what a slot sends as a reply was the first in the line
 pub replies-first : (h : Head) → Valid h → sendsReply h ≡ true → Sends h slot sdoReply × (waits h sdoReply ≡ true)
@@ -106,9 +111,7 @@ module _ (h : Head) (v : Valid h) where
     joined a =
         let b = both (isRequest h f) (not (aborting (f .bytes))) a in
         let r = gets-what-is-due h f v (is-request h f .0 (b .0)) (not-true _ (b .1)) in
-        let w : waits (step h (receive f)) sdoReply ≡ true =
-        rw (r .joins, has-append (number sdoReply) (r .ahead) (number sdoReply ∷ [])) (or-true (has (number sdoReply) (r .ahead))) in
-        ap (λ (t : Bool). cond t (some (step h (receive f) .core .reply)) none) w ∙ ap some (r .bytes)
+        ap (λ (t : Bool). cond t (some (step h (receive f) .core .reply)) none) (replied-waits h f r) ∙ ap some (r .bytes)
 
   not-first : sendsReply h ≡ false → eqb (first (waiting (h .line))) (number sdoReply) ≡ false
   not-first n =

@@ -21,7 +21,7 @@ use Rattle.cases.specs.Tests.{within}
 use Rattle.dictionary.specs.Writes.{rescales, written}
 use Rattle.dictionary.specs.Effects.{effects, anew}
 use Rattle.sdo.specs.Reply.{carriedOut}
-use Rattle.sdo.specs.Service.{Due, none, value, confirmation, abort, answer}
+use Rattle.sdo.specs.Service.{Due, none, value, confirmation, abort, upload, answer}
 use Rattle.parts.specs.declared.Core.{Core}
 use Rattle.parts.specs.declared.Head.{Head}
 use Rattle.parts.specs.declared.Sensor.the-variants.{Missing, Raw}
@@ -72,6 +72,7 @@ showing-due d f none n = refl
 showing-due d f (value w x) n = refl
 showing-due d f (confirmation k v) n = test (repositions k) (λ m. absurd (n k v refl m)) (showing-kept d k v)
 showing-due d f (abort c) n = refl
+showing-due d f (upload b t) n = refl
 
 module _ (h : Head) (v : Valid h) where
   -- a write that is accepted is carried out

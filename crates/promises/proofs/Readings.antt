@@ -12,6 +12,7 @@ use Rattle.cases.proofs.Cases.{by, true-false}
 use Rattle.position.specs.declared.Profile.{Profile}
 use Rattle.position.specs.Position.{position}
 use Rattle.position.specs.Profile.{highestRaw}
+use Rattle.names.specs.declared.Transfer.{Transfer}
 use Rattle.entries.specs.declared.Device.{Device}
 use Rattle.entries.specs.declared.Reading.{Reading}
 use Rattle.entries.specs.declared.table.Found.the-variants.{At}
@@ -23,6 +24,8 @@ use Rattle.dictionary.specs.Laws.{Shows}
 use Rattle.dictionary.proofs.Laws.{shows}
 use Rattle.sdo.specs.Request.{top, indexOf, subOf, reading}
 use Rattle.sdo.specs.Service.{value, abort, isBlank, numberIn, due}
+use Rattle.sdo.specs.Upload.{dueIn}
+use Rattle.sdo.proofs.UploadLaws.{uploads}
 use Rattle.parts.specs.declared.Head.{Head}
 use Rattle.parts.specs.declared.Sensor.{Sensor}
 use Rattle.parts.specs.declared.Sensor.the-variants.{Missing, Raw}
@@ -49,12 +52,12 @@ shownAs p r = cond (not (r .good)) Blank (Number (position p (r .raw)))
 
 -- what the entries of a device read
 module _ (d : Device) (o : Bool) where
-  -- it stands at place 35
-  position-place : lookup 0x6004 0 ≡ At 35
+  -- it stands at place 38
+  position-place : lookup 0x6004 0 ≡ At 38
   unfolding table entries lookup
   position-place = refl
 
-  position-there : (shownAt d o 35 ≡ shownAs (d .settings .profile) (d .reading)) × (width (rowAt 35) ≡ 4)
+  position-there : (shownAt d o 38 ≡ shownAs (d .settings .profile) (d .reading)) × (width (rowAt 38) ≡ 4)
   unfolding table entries shownAt
   position-there = (refl, refl)
 
@@ -65,14 +68,17 @@ module _ (d : Device) (o : Bool) where
   unfolding table entries lookup shownAt
   registers-shown = (shows d o 0x1001 0 refl refl, shows d o 0x6503 0 refl refl)
 
-  pub read-due : (f : List ℕ) (p : ℕ) → reading f ≡ true → lookup (indexOf f) (subOf f) ≡ At p
-      → due d o f ≡ dueShown (width (rowAt p)) (shownAt d o p)
+  -- a read is no segment request
+  pub read-due : (t : Transfer) (f : List ℕ) (p : ℕ) → reading f ≡ true → lookup (indexOf f) (subOf f) ≡ At p
+      → dueIn d o t f ≡ dueShown (width (rowAt p)) (shownAt d o p)
   unfolding due
-  read-due f p r q = rw (q, eqb-true (top f) 2 r) (shown-due (width (rowAt p)) (shownAt d o p))
+  read-due t f p r q =
+      uploads d o t f .other (λ s. omega (arith, eqb-true (top f) 2 r))
+      ∙ rw (q, eqb-true (top f) 2 r) (shown-due (width (rowAt p)) (shownAt d o p))
 
-  position-due : (f : List ℕ) → reading f ≡ true → indexOf f ≡ 0x6004 → subOf f ≡ 0
-      → due d o f ≡ dueShown 4 (shownAs (d .settings .profile) (d .reading))
-  position-due f r i j = read-due f 35 r (rw (i, j) position-place) ∙ rw (position-there .1, position-there .0)
+  position-due : (t : Transfer) (f : List ℕ) → reading f ≡ true → indexOf f ≡ 0x6004 → subOf f ≡ 0
+      → dueIn d o t f ≡ dueShown 4 (shownAs (d .settings .profile) (d .reading))
+  position-due t f r i j = read-due t f 38 r (rw (i, j) position-place) ∙ rw (position-there .1, position-there .0)
 
 -- by the sample whose reading it is
 by-sample : (p : Profile) (s : Sensor) → shownAs p (readingOf s) ≡ shownPosition p s
@@ -148,7 +154,7 @@ tells-of h s e =
       blank = (λ b. blank .0 (sym reads-it ∙ b), λ m. reads-it ∙ blank .1 m);
       register = registers-shown d o .0 ∙ ap some register;
       status = registers-shown d o .1 ∙ ap some register;
-      asked = λ f r i j. position-due d o (f .bytes) r i j ∙ ap (dueShown 4) shown;
+      asked = λ f r i j. position-due d o (h .transfer) (f .bytes) r i j ∙ ap (dueShown 4) shown;
     }
 
 pub tells : (p : PowerUp) (cs : List Call) → Tells (after (powered p) cs) (lastSample Missing cs)

@@ -19,8 +19,9 @@ use Rattle.dictionary.specs.Accepted.{on}
 use Rattle.dictionary.specs.Writes.{written}
 use Rattle.sdo.specs.declared.reply.Effect.the-variants.{Reply}
 use Rattle.sdo.specs.declared.reply.Served.{Served}
-use Rattle.sdo.specs.Reply.{confirmed}
+use Rattle.sdo.specs.Reply.{confirmed, segmented}
 use Rattle.parts.specs.declared.Nmt.{Nmt}
+use Rattle.names.specs.declared.Transfer.{Transfer}
 use Rattle.parts.specs.declared.Core.{Core}
 use Rattle.parts.specs.declared.Head.{Head}
 use Rattle.promises.specs.States.{live, isLive, communication, good}
@@ -122,10 +123,10 @@ module _ (h : Head) (valid : Valid h) (l : isLive (h .core) ≡ true) (free : wa
       last-in left (isAlerting (serving c s) && not (has line.emergency left)) (served-line s refl refl)
 
   -- An aborted request and a read: no condition ends or begins.
-  pub only-reply : (bytes : List ℕ)
-      → waiting (act false h (serve (record { bytes = bytes; effect = Reply })) .line) ≡ ws ++ line.sdoReply ∷ []
-  only-reply bytes =
-      let s : Served = record { bytes = bytes; effect = Reply } in
+  pub only-reply : (bytes : List ℕ) (t : Transfer)
+      → waiting (act false h (serve (segmented bytes t)) .line) ≡ ws ++ line.sdoReply ∷ []
+  only-reply bytes t =
+      let s : Served = segmented bytes t in
       let none-goes : goes c (serving c s) ≡ [] = simp and-not-self in
       let none-comes = ap (λ t. t && not (waits h emergency)) (sym (emergency-exactly h valid)) ∙ and-not-self (waits h emergency) in
       served-line s (ap (withdraws ws) none-goes) none-comes

@@ -1,9 +1,6 @@
 -- The node number is that of power-up: no call changes it.
-use Prim.Native.Nat.{ℕ}
 use mathlib.Core.Path.{_≡_, refl, _∙_}
 use mathlib.Core.List.{List, [], _∷_}
-use Rattle.cases.proofs.Cases.{by₂}
-use Rattle.cases.specs.Tests.{within}
 use Rattle.entries.specs.declared.Device.{Device}
 use Rattle.parts.specs.declared.Head.{Head}
 use Rattle.parts.specs.declared.Answer.{Answer}
@@ -13,6 +10,7 @@ use Rattle.promises.specs.Valid.{Valid}
 use Rattle.promises.specs.Histories.{after, PowerUp, powered}
 use Rattle.promises.specs.Service.{replyDue}
 use Rattle.promises.specs.Gap.{nodeOf}
+use Rattle.promises.proofs.Refusals.{by-power-up}
 use Rattle.promises.proofs.Valid.{valid-step}
 use Rattle.promises.proofs.Altered.{Altered, heard, timed, sent, refused, took, lost, restarted, served, carried, altered}
 
@@ -34,4 +32,4 @@ node-after h v [] = refl
 node-after h v (c ∷ cs) = node-after (step h c) (valid-step h c v) cs ∙ node-step h v c
 
 pub node-powered : (p : PowerUp) → node (powered p .core) ≡ nodeOf p
-node-powered p = by₂ (λ (a : Answer) (n : ℕ). node (a .head .core) ≡ n) (within 1 127 (p .number)) (λ _. refl) (λ _. refl)
+node-powered p = by-power-up (λ (a : Answer). node (a .head .core)) (p .number) (p .identity) refl

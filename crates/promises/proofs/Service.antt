@@ -9,7 +9,7 @@ use Rattle.cases.proofs.Cases.{test, both, true-false}
 use Rattle.can.specs.declared.Received.{Received}
 use Rattle.can.specs.Frame.{refusalOf}
 use Rattle.sdo.specs.Request.{aborting}
-use Rattle.sdo.proofs.Laws.{laws as sdo-laws}
+use Rattle.sdo.proofs.UploadLaws.{uploads}
 use Rattle.waiting.specs.Places.{waiting}
 use Rattle.waiting.specs.Calls.{joins}
 use Rattle.parts.specs.declared.Core.{Core}
@@ -17,15 +17,14 @@ use Rattle.parts.specs.declared.Head.{Head}
 use Rattle.promises.specs.States.{operational, isIn, isInitialising, isLive, node}
 use Rattle.promises.specs.WaitingLine.{sdoReply}
 use Rattle.promises.specs.Acts.{Act, nothing, enter, reset, boot, idle, send, take, lose, time, sync, serve, acted, momentsOf, act}
-use Rattle.promises.specs.Calls.{receive, meant, step}
+use Rattle.promises.specs.Calls.{receive, isHeard, meant, step}
 use Rattle.promises.specs.Valid.{waits, Valid}
-use Rattle.promises.specs.Meant.{Heard, Requests, reply-waits, client-abort}
+use Rattle.promises.specs.Meant.{Heard, Requests, reply-waits}
 use Rattle.promises.specs.Histories.{Reachable}
-use Rattle.promises.specs.Service.{replyDue, Replied, isHeard, isRequest, isAnswered, Serves}
-use Rattle.promises.proofs.Nothing.{step-nothing}
-use Rattle.promises.proofs.Unmeant.{unmeant}
+use Rattle.promises.specs.Service.{replyDue, Replied, isRequest, isAnswered, Serves}
+use Rattle.promises.proofs.Unmeant.{aborted, not-meant}
 use Rattle.promises.proofs.Meant.{core-step}
-use Rattle.promises.proofs.Causes.{Cause, cause, requests}
+use Rattle.promises.proofs.Causes.{Cause, cause, asked-by, requests}
 use Rattle.promises.proofs.ReplyJoins.{at-the-end}
 use Rattle.promises.proofs.Histories.{valid-reachable}
 
@@ -71,7 +70,7 @@ module _ (h : Head) (f : Received) where
 
   module _ (v : Valid h) where
     serves-it : Requests h f → aborting (f .bytes) ≡ false → meant h (receive f) ≡ serve (replyDue h f)
-    serves-it r a = requests h f v r ∙ rw (sdo-laws (h .core .device) (isIn operational (h .core)) (f .bytes) .replied, a)
+    serves-it r a = requests h f v r ∙ rw (uploads (h .core .device) (isIn operational (h .core)) (h .transfer) (f .bytes) .replied, a)
 
     pub gets-what-is-due : Requests h f → aborting (f .bytes) ≡ false → Replied h f (step h (receive f))
     gets-what-is-due r a =
@@ -83,10 +82,11 @@ module _ (h : Head) (f : Received) where
           joins = ap (λ x. waiting (act false h x .line)) (serves-it r a) ∙ j .1;
           bytes = ap (λ c. c .reply) core;
           device = ap (λ c. c .device) core;
+          transfer = rw (asked-by h f v r);
         }
 
-    busy : f .identifier ≡ 0x600 + node (h .core) → waits h sdoReply ≡ true → step h (receive f) ≡ h
-    busy i w = step-nothing h (receive f) refl (unmeant h f v (reply-waits i w))
+    pub busy : f .identifier ≡ 0x600 + node (h .core) → waits h sdoReply ≡ true → step h (receive f) ≡ h
+    busy i w = not-meant h f v (reply-waits i w)
 
     -- only a request that is answered lets the reply join
     unjoined : (a : Act) → Cause h f a → (Requests h f → ⊥) → JoinsNot (h .core) a
@@ -106,7 +106,7 @@ module _ (h : Head) (f : Received) where
     unanswered e =
         test (isRequest h f)
         (λ r. test (aborting (f .bytes))
-        (λ a. ap (λ x. momentsOf (h .core) x sdoReply) (unmeant h f v (client-abort (is-request .0 r .identifier) a)))
+        (λ a. ap (λ x. momentsOf (h .core) x sdoReply) (aborted h f (is-request .0 r .identifier) a))
         (λ a. true-false (rw (r, a) at e)))
         (λ n. unjoined (meant h (receive f)) (cause h f v) (λ r. true-false (sym (is-request .1 r) ∙ n)))
 

@@ -8,6 +8,7 @@ use mathlib.Core.List.{List, map}
 use borrow.Author.Tests.{eqb-true, eq-eqb}
 use Rattle.cases.proofs.Cases.{test}
 use Rattle.can.specs.declared.Received.{Received}
+use Rattle.names.specs.declared.Transfer.{Transfer}
 use Rattle.entries.specs.declared.Device.{Device}
 use Rattle.entries.specs.declared.table.Row.{Row}
 use Rattle.entries.specs.declared.table.Accepted.{Accepted}
@@ -18,9 +19,11 @@ use Rattle.entries.specs.Table.{entries, table, noRow, rowAt, accepted, key, lo
 use Rattle.dictionary.specs.Accepted.{abortCode}
 use Rattle.dictionary.specs.Laws.{Takes}
 use Rattle.dictionary.proofs.Columns.{at-place}
-use Rattle.sdo.specs.Service.{Due, confirmation, due}
+use Rattle.sdo.specs.Service.{Due, confirmation}
+use Rattle.sdo.specs.Upload.{dueIn}
 use Rattle.sdo.specs.Worked.{bytes}
 use Rattle.sdo.proofs.Laws.{laws as sdo-laws}
+use Rattle.sdo.proofs.UploadLaws.{uploads}
 use Rattle.parts.specs.declared.Head.{Head}
 use Rattle.promises.specs.States.{operational, isIn}
 use Rattle.promises.specs.Meant.{Requests, Writes}
@@ -56,36 +59,40 @@ module _ (k a : ℕ) (s : Signed k a) where
       let e = rw (its-signature (t .place) (sym (t .key))) at (t .takes .unaborted) in
       test (eqb v a) (eqb-true v a) (λ n. absurd (omega (arith, rw n at e)))
 
--- they stand at places 9 and 11
-places : (lookup 0x1010 1 ≡ At 9) × (lookup 0x1011 1 ≡ At 11)
+-- they stand at places 12 and 14
+places : (lookup 0x1010 1 ≡ At 12) × (lookup 0x1011 1 ≡ At 14)
 unfolding entries table lookup
 places = (refl, refl)
 
-module _ (d : Device) (o : Bool) where
-  takes : Takes d 9 0x65766173 × Takes d 11 0x64616F6C
+module _ (d : Device) (o : Bool) (t : Transfer) where
+  takes : Takes d 12 0x65766173 × Takes d 14 0x64616F6C
   unfolding entries table abortCode
   takes = (
     record { stands = omega arith; writable = refl; long = omega arith; unaborted = refl },
     record { stands = omega arith; writable = refl; long = omega arith; unaborted = refl },
   )
 
-  save-due : due d o (bytes 0x23 0x10 0x10 0x01 0x73 0x61 0x76 0x65) ≡ confirmation saveKey 0x65766173
+  save-due : dueIn d o t (bytes 0x23 0x10 0x10 0x01 0x73 0x61 0x76 0x65) ≡ confirmation saveKey 0x65766173
   unfolding entries table
-  save-due = sdo-laws d o (bytes 0x23 0x10 0x10 0x01 0x73 0x61 0x76 0x65) .confirms 9 refl (places .0) refl (takes .0)
+  save-due =
+      uploads d o t (bytes 0x23 0x10 0x10 0x01 0x73 0x61 0x76 0x65) .other (λ e. omega arith)
+      ∙ sdo-laws d o (bytes 0x23 0x10 0x10 0x01 0x73 0x61 0x76 0x65) .confirms 12 refl (places .0) refl (takes .0)
 
-  load-due : due d o (bytes 0x23 0x11 0x10 0x01 0x6C 0x6F 0x61 0x64) ≡ confirmation loadKey 0x64616F6C
+  load-due : dueIn d o t (bytes 0x23 0x11 0x10 0x01 0x6C 0x6F 0x61 0x64) ≡ confirmation loadKey 0x64616F6C
   unfolding entries table
-  load-due = sdo-laws d o (bytes 0x23 0x11 0x10 0x01 0x6C 0x6F 0x61 0x64) .confirms 11 refl (places .1) refl (takes .1)
+  load-due =
+      uploads d o t (bytes 0x23 0x11 0x10 0x01 0x6C 0x6F 0x61 0x64) .other (λ e. omega arith)
+      ∙ sdo-laws d o (bytes 0x23 0x11 0x10 0x01 0x6C 0x6F 0x61 0x64) .confirms 14 refl (places .1) refl (takes .1)
 
 module _ (h : Head) (f : Received) (r : Requests h f) where
-  abbrev dueIn : List ℕ → Due
-  dueIn = due (h .core .device) (isIn operational (h .core))
+  abbrev dueHere : List ℕ → Due
+  dueHere = dueIn (h .core .device) (isIn operational (h .core)) (h .transfer)
 
   pub save-taken : f .bytes ≡ bytes 0x23 0x10 0x10 0x01 0x73 0x61 0x76 0x65 → Writes h f saveKey 0x65766173
-  save-taken e = record { requests = r; accepted = ap dueIn e ∙ save-due (h .core .device) (isIn operational (h .core)) }
+  save-taken e = record { requests = r; accepted = ap dueHere e ∙ save-due (h .core .device) (isIn operational (h .core)) (h .transfer) }
 
   pub load-taken : f .bytes ≡ bytes 0x23 0x11 0x10 0x01 0x6C 0x6F 0x61 0x64 → Writes h f loadKey 0x64616F6C
-  load-taken e = record { requests = r; accepted = ap dueIn e ∙ load-due (h .core .device) (isIn operational (h .core)) }
+  load-taken e = record { requests = r; accepted = ap dueHere e ∙ load-due (h .core .device) (isIn operational (h .core)) (h .transfer) }
 
 pub save-only : (h : Head) (f : Received) (v : ℕ) → Writes h f saveKey v → v ≡ 0x65766173
 save-only = only saveKey 0x65766173 save-signed

@@ -7,8 +7,10 @@ use mathlib.Core.Path.{_≡_, refl, sym, ap, subst, _∙_}
 use mathlib.Core.Bool.{Bool, true, false, not, _&&_, cond}
 use mathlib.Core.List.{List, [], _∷_, map}
 use mathlib.Core.Option.{some}
+use mathlib.Core.Logic.{⊎-elim}
 use borrow.Author.Tests.{le-ltb}
-use Rattle.cases.specs.Tests.{within}
+use Rattle.names.specs.declared.Transfer.{Transfer}
+use Rattle.names.specs.Transfer.{noTransfer}
 use Rattle.entries.specs.declared.Device.{Device}
 use Rattle.entries.specs.declared.Identity.{Identity}
 use Rattle.entries.specs.declared.table.Found.the-variants.{At}
@@ -22,31 +24,34 @@ use Rattle.dictionary.specs.Laws.{Shows}
 use Rattle.dictionary.proofs.Columns.{at-place}
 use Rattle.dictionary.proofs.Laws.{shows}
 use Rattle.sdo.specs.Request.{indexOf}
-use Rattle.sdo.specs.Service.{due}
+use Rattle.sdo.specs.Upload.{dueIn}
 use Rattle.sdo.specs.Worked.{bytes}
 use Rattle.sdo.specs.declared.reply.Effect.{Effect}
 use Rattle.sdo.specs.declared.reply.Effect.the-variants.{Nothing, Reply, Write}
 use Rattle.sdo.specs.Reply.{carriedOut}
 use Rattle.waiting.specs.Line.{emergency, sdoReply, has}
 use Rattle.parts.specs.declared.Nmt.{Nmt}
+use Rattle.parts.specs.declared.Answer.{Answer}
 use Rattle.parts.specs.declared.Head.{Head}
 use Rattle.promises.specs.States.{operational, isIn, live, communication, good, restored, started, startedCore}
-use Rattle.promises.specs.Calls.{Call, slot, step, answered, noIdentity}
+use Rattle.promises.specs.Calls.{Call, slot, step, noIdentity}
 use Rattle.promises.specs.Valid.{Valid}
 use Rattle.promises.specs.Meant.{Requests, dueTo}
 use Rattle.promises.specs.Histories.{after, PowerUp, powered}
 use Rattle.promises.specs.Service.{replyDue}
 use Rattle.promises.specs.Resets.{HasBooted}
-use Rattle.promises.specs.Gap.{nodeOf}
+use Rattle.promises.specs.Gap.{isTaken, nodeOf}
 use Rattle.promises.specs.Readings.{readsIn, dueShown}
 use Rattle.promises.specs.Codes.{All}
-use Rattle.promises.specs.Starts.{identityOf, Line, firstReads, firstLines, reading, Reads, Starts}
+use Rattle.promises.specs.Demand1.{BadNode}
+use Rattle.promises.specs.Starts.{refusedIdentity, identityOf, Line, firstReads, firstLines, reading, Reads, Starts}
 use Rattle.promises.proofs.Valid.{valid-step}
 use Rattle.promises.proofs.Meant.{core-step, resets}
 use Rattle.promises.proofs.Altered.{Altered, heard, timed, sent, refused, took, lost, restarted, served, altered}
 use Rattle.promises.proofs.Kept.{saved-after}
 use Rattle.promises.proofs.Readings.{read-due}
 use Rattle.promises.proofs.Histories.{valid-powered}
+use Rattle.promises.proofs.Refusals.{by-power-up}
 use Rattle.promises.proofs.Demand1.{demand1}
 use Rattle.promises.proofs.SameNode.{node-step, node-after, node-powered}
 use Rattle.promises.proofs.NetworkStates.{network-states}
@@ -111,12 +116,12 @@ module _ (n : ℕ) (i : Identity) where
     entry-reads : reads d false (line k .0) (line k .1) ≡ some (line k .3)
     entry-reads = shows d false (line k .0) (line k .1) stands (shown-at k)
 
-    entry-due : due d false (reading n (line k .0) (line k .1) .bytes) ≡ dueShown (line k .2) (line k .3)
-    entry-due =
+    entry-due : (t : Transfer) → dueIn d false t (reading n (line k .0) (line k .1) .bytes) ≡ dueShown (line k .2) (line k .3)
+    entry-due t =
         let f = reading n (line k .0) (line k .1) .bytes in
         let its-index : indexOf f ≡ line k .0 =
         at-place (λ l. indexOf (reading n (l .0) (l .1) .bytes)) (λ l. l .0) (firstReads n i) noLine k refl indices in
-        read-due d false f k refl (ap (λ x. lookup x (line k .1)) its-index ∙ stands)
+        read-due d false t f k refl (ap (λ x. lookup x (line k .1)) its-index ∙ stands)
         ∙ ap (dueShown (width (rowAt k))) (shown-at k)
         ∙ ap (λ w. dueShown w (line k .3)) (sym (row-at k .2))
 
@@ -124,15 +129,15 @@ module _ (n : ℕ) (i : Identity) where
     booted-due : let f = reading n (line k .0) (line k .1) in dueTo (step (started n i) slot) f ≡ dueShown (line k .2) (line k .3)
     booted-due =
         let f = reading n (line k .0) (line k .1) in
-        ap (λ c. due (c .device) (isIn operational c) (f .bytes)) (core-step (started n i) slot) ∙ entry-due
+        ap (λ c. dueIn (c .device) (isIn operational c) noTransfer (f .bytes)) (core-step (started n i) slot) ∙ entry-due noTransfer
 
 -- node and identity of a power-up that is refused are 1 and zeros
 pub powered-is : (p : PowerUp) → powered p ≡ started (nodeOf p) (identityOf p)
-powered-is p = chosen (within 1 127 (p .number))
+powered-is p = by-power-up (λ (a : Answer). a .head) (p .number) (p .identity) refl ∙ chosen (isTaken p)
   where
     chosen : (t : Bool)
-        → cond t (answered 0 (started (p .number) (p .identity))) (answered 4 (started 1 noIdentity)) .head
-        ≡ started (cond t (p .number) 1) (cond t (p .identity) noIdentity)
+        → cond t (started (p .number) (p .identity)) (started 1 noIdentity)
+        ≡ started (cond t (p .number) 1) (cond t (p .identity) refusedIdentity)
     chosen true = refl
     chosen false = refl
 
@@ -194,7 +199,7 @@ pub identity-after : (cs : List Call) (h : Head) → Valid h → after h cs .cor
 identity-after [] h v = refl
 identity-after (c ∷ cs) h v = identity-after cs (step h c) (valid-step h c v) ∙ identity-by h c (step h c .core .device) (altered h v c)
 
-same-identity : (p : PowerUp) (cs : List Call) → after (powered p) cs .core .device .identity ≡ identityOf p
+pub same-identity : (p : PowerUp) (cs : List Call) → after (powered p) cs .core .device .identity ≡ identityOf p
 same-identity p cs = identity-after cs (powered p) (valid-powered p) ∙ ap (λ (h : Head). h .core .device .identity) (powered-is p)
 
 -- 1018-1..4
@@ -204,6 +209,9 @@ identity-shown : (d : Device) (o : Bool) → let i = d .identity in
 unfolding entries table lookup shownAt
 identity-shown d o =
     (shows d o 0x1018 1 refl refl, shows d o 0x1018 2 refl refl, shows d o 0x1018 3 refl refl, shows d o 0x1018 4 refl refl)
+
+badly : (n : ℕ) → (1 ≤ n) × (n ≤ 127) → BadNode n → ⊥
+badly n f b = ⊎-elim (λ l. omega (arith, l, f .0)) (λ l. omega (arith, l, f .1)) b
 
 pub starts : Starts
 starts =
@@ -218,8 +226,10 @@ starts =
           ∙ ap (restored r (h .core .device .settings)) (saved-after (powered p) (valid-powered p) cs n ∙ saved-is p);
       same-identity = same-identity;
       refused = λ p bad cs.
-          let r = demand1 .gives-4 (p .number) (p .identity) .1 bad in
-          let e : powered p ≡ started 1 noIdentity = demand1 .node-refused (p .number) (p .identity) (λ z. omega (arith, sym r ∙ z)) in (
+          let taken = demand1 .takes-node (p .number) (p .identity) .0 in
+          let e : powered p ≡ started 1 noIdentity =
+          demand1 .node-refused (p .number) (p .identity)
+          (λ z. ⊎-elim (λ b. badly (p .number) (taken z .0) b) (λ b. b (taken z .1)) bad) in (
             node-after (powered p) (valid-powered p) cs ∙ ap (λ (h : Head). h .core .device .node) e,
             identity-after cs (powered p) (valid-powered p) ∙ ap (λ (h : Head). h .core .device .identity) e,
           );

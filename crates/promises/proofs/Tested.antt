@@ -11,7 +11,7 @@ use Rattle.cases.proofs.Cases.{by, test, both, true-false}
 use Rattle.can.specs.declared.Received.{Received}
 use Rattle.sdo.specs.declared.reply.Effect.{Effect}
 use Rattle.sdo.specs.declared.reply.Effect.the-variants.{Nothing, Reply, Write}
-use Rattle.sdo.specs.Service.{Due, none, value, confirmation, abort, answer}
+use Rattle.sdo.specs.Service.{Due, none, value, confirmation, abort, upload, answer}
 use Rattle.waiting.specs.Line.{first}
 use Rattle.parts.specs.declared.Head.{Head}
 use Rattle.parts.specs.declared.Sensor.{Sensor}
@@ -20,10 +20,10 @@ use Rattle.position.specs.Profile.{highestRaw}
 use Rattle.promises.specs.States.{operational, stopped, preOperational, isIn, isInitialising, node}
 use Rattle.promises.specs.States.{Command, noCommand, toEnter, toReset, commandOf}
 use Rattle.promises.specs.Acts.{Act, nothing, enter, reset, boot, idle, send, take, lose, time, sync, serve}
-use Rattle.promises.specs.Calls.{Call, receive, tick, sample, slot, isSlot, served, meant}
+use Rattle.promises.specs.Calls.{Call, receive, tick, sample, slot, isSlot, served, isHeard, meant}
 use Rattle.promises.specs.Valid.{Valid}
 use Rattle.promises.specs.Meant.{Commands, Synchronises, Writes, dueTo}
-use Rattle.promises.specs.Service.{isHeard, isRequest, confirms}
+use Rattle.promises.specs.Service.{isRequest, confirms}
 use Rattle.promises.specs.Moments.{isSync, saysOperational, isEntry, writes, synchronises, entersOperational, isTick}
 use Rattle.promises.proofs.KindNumbers.{sent-as}
 use Rattle.promises.proofs.Service.{heard-as, is-request}
@@ -129,12 +129,14 @@ due-to t f none = refl
 due-to t f (value w n) = refl
 due-to t f (confirmation k v) = refl
 due-to t f (abort code) = refl
+due-to t f (upload b u) = refl
 
 pub confirmed-by : (t : ℕ → ℕ → Bool) (y : Due) → confirms t y ≡ true → (k : ℕ) × (v : ℕ) × (t k v ≡ true) × (y ≡ confirmation k v)
 confirmed-by t none e = true-false (sym e)
 confirmed-by t (value w n) e = true-false (sym e)
 confirmed-by t (confirmation k v) e = (k, v, e, refl)
 confirmed-by t (abort code) e = true-false (sym e)
+confirmed-by t (upload b u) e = true-false (sym e)
 
 pub is-written : (h : Head) (f : Received) (t : ℕ → ℕ → Bool)
     → (writes t h (receive f) ≡ true) ↔ ((k : ℕ) × (v : ℕ) × (t k v ≡ true) × Writes h f k v)

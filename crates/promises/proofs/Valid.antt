@@ -11,12 +11,14 @@ use Rattle.dictionary.specs.Valid.{ValidIdentity}
 use Rattle.dictionary.proofs.Laws.{laws as dictionary-laws}
 use Rattle.waiting.specs.Line.{places}
 use Rattle.waiting.proofs.Laws.{laws}
+use Rattle.names.specs.declared.Transfer.{Transfer}
 use Rattle.parts.specs.declared.Head.{Head}
+use Rattle.parts.specs.Put.{withTransfer}
 use Rattle.promises.specs.States.{started}
 use Rattle.promises.specs.WaitingLine.{Kind, emergency, isAlerting, mayStay, mayJoin}
 use Rattle.promises.specs.Acts.{Act, nothing, enter, reset, boot, idle, send, take, lose, time}
 use Rattle.promises.specs.Acts.{sync, serve, acted, momentsOf, settledTo, act}
-use Rattle.promises.specs.Calls.{Call, isSlot, meant, step}
+use Rattle.promises.specs.Calls.{Call, isSlot, meant, transferAfter, step}
 use Rattle.promises.specs.Valid.{waits, Valid}
 use Rattle.promises.proofs.Nothing.{act-nothing}
 use Rattle.promises.proofs.Waits.{join-stay, sends, holds-act, waits-act}
@@ -63,7 +65,7 @@ module _ (b : Bool) (h : Head) where
       stays-may (momentsOf c a k) (mayJoin later k) (mayStay c k) (mayStay later k) (not (sends b h k)) (waits h k)
       (join-stay later k) (v .only k) (sym (waits-act b h a v k) ∙ e)
 
-  valid-act : (a : Act) → Fits b (h .core) a → Valid h → Valid (act b h a)
+  pub valid-act : (a : Act) → Fits b (h .core) a → Valid h → Valid (act b h a)
   unfolding act settledTo
   valid-act a f v =
       record {
@@ -76,8 +78,21 @@ module _ (b : Bool) (h : Head) where
         urgent = urgent-act a f v;
       }
 
+-- whatever transfer runs
+pub handed : (h : Head) (t : Transfer) → Valid h → Valid (withTransfer h t)
+handed h t v =
+    record {
+      device = v .device;
+      named = v .named;
+      timers = v .timers;
+      fresh = v .fresh;
+      line = v .line;
+      only = v .only;
+      urgent = v .urgent;
+    }
+
 pub valid-step : (h : Head) (c : Call) → Valid h → Valid (step h c)
-valid-step h c v = valid-act (isSlot c) h (meant h c) (fits h c) v
+valid-step h c v = handed (act (isSlot c) h (meant h c)) (transferAfter h c) (valid-act (isSlot c) h (meant h c) (fits h c) v)
 
 pub valid-started : (n : ℕ) (i : Identity) → 1 ≤ n → n ≤ 127 → ValidIdentity i → Valid (started n i)
 valid-started n i low high named =

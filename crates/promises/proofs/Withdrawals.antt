@@ -9,7 +9,7 @@ use Rattle.can.specs.declared.Received.{Received}
 use Rattle.position.specs.Profile.{highestRaw}
 use Rattle.entries.specs.Keys.{heartbeatKey, emergencyKey}
 use Rattle.dictionary.specs.Accepted.{on}
-use Rattle.sdo.specs.Service.{Due, none, value, confirmation, abort, answer}
+use Rattle.sdo.specs.Service.{Due, none, value, confirmation, abort, upload, answer}
 use Rattle.waiting.specs.Line.{first}
 use Rattle.waiting.specs.Places.{waiting}
 use Rattle.parts.specs.declared.Core.{Core}
@@ -56,6 +56,7 @@ module _ (h : Head) (f : Received) where
   beat-served none r e y n = goes-on y n
   beat-served (value w m) r e y n = goes-on y n
   beat-served (abort m) r e y n = goes-on y n
+  beat-served (upload b t) r e y n = goes-on y n
   beat-served (confirmation k v) r e y n =
       let t = both (eqb k heartbeatKey) (eqb v 0) (sym (ends c (f .bytes) k v heartbeat y) ∙ ap not n) in
       beats-no-more (record { requests = r; accepted = e ∙ ap₂ confirmation (eqb-true k heartbeatKey (t .0)) (eqb-true v 0 (t .1)) })
@@ -64,6 +65,7 @@ module _ (h : Head) (f : Received) where
   alert-served none r e y n = goes-on y n
   alert-served (value w m) r e y n = goes-on y n
   alert-served (abort m) r e y n = goes-on y n
+  alert-served (upload b t) r e y n = goes-on y n
   alert-served (confirmation k v) r e y n =
       let t = both (eqb k emergencyKey) (not (on v)) (sym (ends c (f .bytes) k v emergency y) ∙ ap not n) in
       silenced (record { requests = r; accepted = e ∙ ap (λ j. confirmation j v) (eqb-true k emergencyKey (t .0)) }) (not-true _ (t .1))
@@ -72,6 +74,7 @@ module _ (h : Head) (f : Received) where
   tpdo-served w none r e y n = goes-on y n
   tpdo-served w (value u m) r e y n = goes-on y n
   tpdo-served w (abort m) r e y n = goes-on y n
+  tpdo-served w (upload b t) r e y n = goes-on y n
   tpdo-served w (confirmation k v) r e y n =
       let t = both (eqb k (identifierKey w)) (not (on v)) (sym (ends c (f .bytes) k v (tpdo w) y) ∙ ap not n) in
       switches-off (record { requests = r; accepted = e ∙ ap (λ j. confirmation j v) (eqb-true k (identifierKey w) (t .0)) })

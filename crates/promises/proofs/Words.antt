@@ -13,6 +13,7 @@ use Rattle.position.specs.Profile.{highestRaw}
 use Rattle.entries.specs.declared.Device.{Device}
 use Rattle.sdo.specs.Exactly.{Exactly}
 use Rattle.sdo.proofs.Laws.{laws as sdo-laws}
+use Rattle.sdo.proofs.UploadLaws.{listed, uploads}
 use Rattle.waiting.specs.Places.{waiting}
 use Rattle.waiting.specs.Line.{first}
 use Rattle.parts.specs.declared.Core.{Core}
@@ -208,9 +209,9 @@ reading-altered h _ _ (served f x) = inl (carried (h .core .device) (replyDue h 
 pub words : Words
 words =
     record {
-      taken = λ p cs low high.
+      taken = λ p cs low high fit.
           let e : powered p ≡ started (p .number) (p .identity) =
-          demand1 .node-taken (p .number) (p .identity) (demand1 .takes-node (p .number) (p .identity) .1 (low, high)) in (
+          demand1 .node-taken (p .number) (p .identity) (demand1 .takes-node (p .number) (p .identity) .1 ((low, high), fit)) in (
             node-after (powered p) (valid-powered p) cs ∙ ap (λ (h : Head). h .core .device .node) e,
             identity-after cs (powered p) (valid-powered p) ∙ ap (λ (h : Head). h .core .device .identity) e,
           );
@@ -230,14 +231,18 @@ words =
           let h : Head = after (powered p) cs in
           let x = codeAfter (nodeOf p) cs in
           (synchronised (nodeOf p) x h f (its-node p cs) (code-is p cs), syncs (nodeOf p) x h f (its-node p cs) (code-is p cs));
-      due = λ p cs f bytes.
+      due = λ p cs f bytes first.
           let h : Head = after (powered p) cs in
           let d = h .core .device in
+          let o = isIn operational (h .core) in
           subst (λ x. Exactly d (eqb x 0x05) (f .bytes) (dueTo h f)) (code-is p cs)
-          (sdo-laws d (isIn operational (h .core)) (f .bytes) .exactly bytes);
+          (subst (Exactly d o (f .bytes)) (sym (listed d o (h .transfer) (f .bytes) first)) (sdo-laws d o (f .bytes) .exactly bytes));
       writes = λ h f k v bytes.
-          let c = sdo-laws (h .core .device) (isIn operational (h .core)) (f .bytes) .exactly bytes .confirmations k v in
-          (λ w. (w .requests, c .0 (w .accepted)), λ x. record { requests = x .0; accepted = c .1 (x .1) });
+          let d = h .core .device in
+          let o = isIn operational (h .core) in
+          let u = uploads d o (h .transfer) (f .bytes) .confirmed k v in
+          let c = sdo-laws d o (f .bytes) .exactly bytes .confirmations k v in
+          (λ w. (w .requests, c .0 (u .0 (w .accepted))), λ x. record { requests = x .0; accepted = u .1 (c .1 (x .1)) });
       below-2000h = below-2000h;
       firsts = firsts;
       settings-by = λ h x c. ⊎-elim inl (λ a. inr (alters-frame h c a)) (settings-by h (valid-reachable h x) c);

@@ -4,13 +4,14 @@ use Rattle.entries.specs.Table.{entries, table, lookup}
 use Rattle.dictionary.specs.Reads.{shownAt}
 use Rattle.dictionary.specs.Writes.{written}
 use Rattle.sdo.specs.Service.{due}
+use Rattle.sdo.specs.Upload.{dueIn}
 use Rattle.promises.specs.Acts.{settledTo, act}
 use Rattle.promises.specs.Worked.{Worked, Printed}
 
 pub worked : Worked
-unfolding entries table lookup shownAt written due act settledTo
+unfolding entries table lookup shownAt written due dueIn act settledTo
 worked = refl
 
 pub printed : Printed
-unfolding entries table lookup shownAt written due act settledTo
+unfolding entries table lookup shownAt written due dueIn act settledTo
 printed = refl

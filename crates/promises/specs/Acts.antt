@@ -191,7 +191,8 @@ comes due after = those (λ k. due k && mayJoin after k)
 -- A head with a new core, after its line has settled; `slot` says whether the first kind was sent. `afterIn` of crate waiting defines how
 -- kinds join and are withdrawn: a kind joins at the end, one that waits already keeps its place, several join in the order just given.
 unfoldable pub settledTo : Bool → Head → Core → (Kind → Bool) → Head
-settledTo slot h after due = record { core = after; line = afterIn slot (goes (h .core) after) (comes due after) (h .line) }
+settledTo slot h after due =
+    record { core = after; transfer = h .transfer; line = afterIn slot (goes (h .core) after) (comes due after) (h .line) }
 
 -- which kinds an act on a core makes due
 abbrev pub momentsOf : Core → Act → Kind → Bool

@@ -3,6 +3,7 @@
 -- that 01 lists; it then returns the number listed there, and a head that already ran is as it was before."
 -- That each call ends needs no theorem: the checker admits no function that may not return.
 use Prim.Native.Nat.{ℕ, _<_, _≤_}
+use lib.ListN.{length}
 use mathlib.Core.Path.{_≡_}
 use mathlib.Core.Logic.{_↔_, _⊎_}
 use mathlib.Core.Bool.{true, false}
@@ -26,12 +27,21 @@ BadIdentifier f = ((f .extended ≡ false) × (0x7FF < f .identifier)) ⊎ ((f .
 abbrev pub BadNode : ℕ → Type 0
 BadNode n = (n < 1) ⊎ (127 < n)
 
+-- strings of 1 to 32 bytes
+abbrev pub NameFits : ℕ → Type 0
+NameFits length = (1 ≤ length) × (length ≤ 32)
+
+abbrev pub NamesFit : Identity → Type 0
+NamesFit i = NameFits (i .name .length) × NameFits (i .hardware .length) × NameFits (i .software .length)
+
 pub record Demand1 : Type 0 where
   -- Every head comes from power-up and is altered by calls only: so every head is valid, and a call requires no more.
   pub starts : (p : PowerUp) → Reachable (powered p)
-  -- Power-up takes a node number N and four identity numbers: any node number, and any four numbers of 32 bits
+  -- Power-up takes a node number N, four identity numbers and three names: any node number, any four numbers of 32 bits, and any
+  -- three arrays of 32 bytes with their lengths
   pub takes-any : (n : ℕ) (i : Identity) → i .vendor < 0x100000000 → i .product < 0x100000000 → i .revision < 0x100000000
-      → i .serial < 0x100000000 → (p : PowerUp) × (p .number ≡ n) × (p .identity ≡ i)
+      → i .serial < 0x100000000 → length (i .name .bytes) ≡ 32 → length (i .hardware .bytes) ≡ 32 → length (i .software .bytes) ≡ 32
+      → (p : PowerUp) × (p .number ≡ n) × (p .identity ≡ i)
   pub goes-on : (h : Head) (c : Call) → Reachable h → Reachable (step h c)
   pub valid : (h : Head) → Reachable h → Valid h
   -- the laws of the dictionary and of the service are for such devices
@@ -48,11 +58,13 @@ pub record Demand1 : Type 0 where
   pub takes-missing : (h : Head) → refusalBy (sample Missing) ≡ 0
   -- 4: node number at power-up not 1..127
   pub gives-4 : (n : ℕ) (i : Identity) → (poweredUp n i .refusal ≡ 4) ↔ BadNode n
-  pub takes-node : (n : ℕ) (i : Identity) → (poweredUp n i .refusal ≡ 0) ↔ ((1 ≤ n) × (n ≤ 127))
+  -- 5 for a name length out of range, after 4
+  pub gives-5 : (n : ℕ) (i : Identity) → (poweredUp n i .refusal ≡ 5) ↔ ((BadNode n → ⊥) × (NamesFit i → ⊥))
+  pub takes-node : (n : ℕ) (i : Identity) → (poweredUp n i .refusal ≡ 0) ↔ (((1 ≤ n) × (n ≤ 127)) × NamesFit i)
   -- 1, 2 and 3: the number; head unchanged
   pub frame-refused : (h : Head) (f : Received) → (refusalBy (receive f) ≡ 0 → ⊥) → step h (receive f) ≡ h
   pub sample-refused : (h : Head) (s : Sensor) → (refusalBy (sample s) ≡ 0 → ⊥) → step h (sample s) ≡ h
-  -- 4: the number, and a head of node 1 with identity numbers 0
+  -- 4 and 5: the number, and a head of node 1 with identity numbers 0 and "?" for each name
   pub node-refused : (n : ℕ) (i : Identity) → (poweredUp n i .refusal ≡ 0 → ⊥) → poweredUp n i .head ≡ started 1 noIdentity
   pub node-taken : (n : ℕ) (i : Identity) → poweredUp n i .refusal ≡ 0 → poweredUp n i .head ≡ started n i
   -- A frame neither refused nor meant for the head changes nothing: each reason why it is not meant is enough,

@@ -16,6 +16,8 @@ use Rattle.promises.specs.Counting.{Counting}
 use Rattle.promises.specs.PassedOver.{PassedOver}
 use Rattle.promises.specs.Emergency.{Emergency}
 use Rattle.promises.specs.Service.{Serves, Answers}
+use Rattle.promises.specs.Transfers.{Transfers}
+use Rattle.promises.specs.NamesRead.{NamesRead}
 use Rattle.promises.specs.Readings.{Tells, lastSample, Positioned}
 use Rattle.promises.specs.Effects.{ServedRightly}
 use Rattle.promises.specs.Resets.{Resets}
@@ -56,6 +58,9 @@ pub record Demand2 : Type 0 where
   pub gets-what-is-due : (h : Head) → Reachable h → Serves h
   -- over any sequence of calls.
   pub answers : (p : PowerUp) (cs : List Call) → Answers p cs
+  -- A name is read in segments: what each call does to the transfer, and that the client receives exactly the name.
+  pub transfers : Transfers
+  pub names-read : NamesRead
   -- An accepted write has exactly the effects named for it, an aborted write alters no entry,
   pub served-rightly : ServedRightly
   -- and a position is the exact result of scaling, direction, preset and range.

@@ -5,15 +5,17 @@ use Prim.Native.Nat.{ℕ, _+_}
 use lib.Dec.{eqb}
 use mathlib.Core.Path.{_≡_}
 use mathlib.Core.Bool.{Bool, true, false, not, _&&_, _||_, cond}
-use mathlib.Core.List.{[], _∷_, _++_, map}
+use mathlib.Core.List.{List, [], _∷_, _++_, map}
 use mathlib.Core.Option.{none, some}
 use Rattle.can.specs.declared.Received.{Received}
+use Rattle.names.specs.declared.Transfer.{Transfer}
+use Rattle.names.specs.Transfer.{noTransfer}
 use Rattle.entries.specs.Table.{keyOf}
 use Rattle.dictionary.specs.declared.read.Shown.the-variants.{Number}
 use Rattle.dictionary.specs.Accepted.{on}
 use Rattle.dictionary.specs.Effects.{effects, anew, savedBy, readBack}
 use Rattle.sdo.specs.Request.{indexOf, subOf}
-use Rattle.sdo.specs.Service.{value, confirmation, abort, answer}
+use Rattle.sdo.specs.Service.{value, confirmation, abort, upload, answer}
 use Rattle.sdo.specs.Service as service
 use Rattle.sdo.specs.Worked.{bytes}
 use Rattle.waiting.specs.Line as line
@@ -23,6 +25,7 @@ use Rattle.waiting.specs.Calls.{withdraws}
 use Rattle.parts.specs.declared.Timers.{Timers}
 use Rattle.parts.specs.declared.Core.{Core}
 use Rattle.parts.specs.declared.Head.{Head}
+use Rattle.parts.specs.Put.{withTransfer}
 use Rattle.promises.specs.States.{operational, isIn, communication, good, PdoNumber, one, two, pdo, clock}
 use Rattle.promises.specs.WaitingLine.{Kind, emergency, sdoReply, heartbeat, tpdo, those, mayAlert}
 use Rattle.promises.specs.Calls.{receive, step}
@@ -76,7 +79,7 @@ brings h k v sdoReply = true
 brings h k v heartbeat = false
 brings h k v (tpdo w) = false
 
--- From head h to head a only the reply changes, and the line: the reply joins at its end.
+-- From head h to head a only the reply changes, the transfer, and the line: the reply joins at its end.
 pub record OnlyReplied (f : Received) (h a : Head) : Type 0 where
   pub entries : (i j : ℕ) → readsIn a i j ≡ readsIn h i j
   -- settings, saved set, reading and error list
@@ -85,6 +88,7 @@ pub record OnlyReplied (f : Received) (h a : Head) : Type 0 where
   pub announced : a .core .announced ≡ h .core .announced
   pub timers : a .core .timers ≡ h .core .timers
   pub reply : a .core .reply ≡ answer (f .bytes) (dueTo h f) .bytes
+  pub transfer : a .transfer ≡ answer (f .bytes) (dueTo h f) .transfer
   pub line : waiting (a .line) ≡ waiting (h .line) ++ line.sdoReply ∷ []
 
 -- All that a write of v to the entry of key k changes, from head h to head a.
@@ -105,6 +109,8 @@ pub record Effects (f : Received) (k v : ℕ) (h a : Head) : Type 0 where
   pub inhibit : a .core .timers .inhibit ≡ h .core .timers .inhibit
   pub counts : (c : Counted) → count (a .core .timers) c ≡ cond (restarts (h .core) k v c) 0 (count (h .core .timers) c)
   pub reply : a .core .reply ≡ answer (f .bytes) (confirmation k v) .bytes
+  -- a write ends the transfer
+  pub transfer : a .transfer ≡ noTransfer
   -- the kinds that were taken are gone, the others keep their order, and those that joined stand at the end
   pub line : waiting (a .line) ≡ withdraws (waiting (h .line)) (those (takes k v)) ++ those (brings h k v)
   pub who-waits : (x : Kind) → waits a x ≡ ((not (takes k v x) && waits h x) || brings h k v x)
@@ -115,8 +121,10 @@ pub record Served (h : Head) (f : Received) : Type 0 where
   pub aborted : (code : ℕ) → dueTo h f ≡ abort code → OnlyReplied f h (step h (receive f))
   -- nor does a read,
   pub read : (width n : ℕ) → dueTo h f ≡ value width n → OnlyReplied f h (step h (receive f))
-  -- nor does 4 abort (no effect, no reply).
-  pub client-aborts : dueTo h f ≡ service.none → step h (receive f) ≡ h
+  -- nor does a segment request while a name is read,
+  pub segment : (b : List ℕ) (t : Transfer) → dueTo h f ≡ upload b t → OnlyReplied f h (step h (receive f))
+  -- nor does 4 abort (no effect, no reply), but that it ends a transfer.
+  pub client-aborts : dueTo h f ≡ service.none → step h (receive f) ≡ withTransfer h noTransfer
   pub accepted : (k v : ℕ) → dueTo h f ≡ confirmation k v → Effects f k v h (step h (receive f))
 
 abbrev pub ServedRightly : Type 0

@@ -10,6 +10,7 @@ use mathlib.Core.List.{List, [], _∷_, _++_}
 use mathlib.Core.Option.{Option, none, some}
 use Rattle.can.specs.declared.Frame.{Frame}
 use Rattle.cases.specs.Tests.{within}
+use Rattle.entries.specs.declared.Identity.{Identity}
 use Rattle.dictionary.specs.Accepted.{on}
 use Rattle.parts.specs.declared.Head.{Head}
 use Rattle.parts.specs.declared.Sensor.the-variants.{Missing, Raw}
@@ -20,9 +21,17 @@ use Rattle.promises.specs.Calls.{Call, receive, tick, sample, slot, step
 use Rattle.promises.specs.Valid.{waits}
 use Rattle.promises.specs.Histories.{after, slots, frames, sent, PowerUp, powered}
 
--- The node number N of power-up; one that is not 1..127 is refused, and leaves a head of node 1.
+-- strings of 1 to 32 bytes
+abbrev pub namesFit : Identity → Bool
+namesFit i = within 1 32 (i .name .length) && within 1 32 (i .hardware .length) && within 1 32 (i .software .length)
+
+-- Power-up is not refused.
+abbrev pub isTaken : PowerUp → Bool
+isTaken p = within 1 127 (p .number) && namesFit (p .identity)
+
+-- The node number N of power-up; a power-up that is refused leaves a head of node 1.
 abbrev pub nodeOf : PowerUp → ℕ
-nodeOf p = cond (within 1 127 (p .number)) (p .number) 1
+nodeOf p = cond (isTaken p) (p .number) 1
 
 -- whether one of a list passes a test
 abbrev pub among : {A : Type 0} → (A → Bool) → List A → Bool

@@ -6,7 +6,7 @@ use mathlib.Core.Bool.{cond}
 use mathlib.Core.List.{List, [], _∷_, _++_}
 use Rattle.can.specs.declared.Frame.{Frame}
 use Rattle.entries.specs.declared.Identity.{Identity}
-use Rattle.dictionary.specs.Valid.{ValidIdentity}
+use Rattle.dictionary.specs.Valid.{FitsIdentity}
 use Rattle.parts.specs.declared.Head.{Head}
 use Rattle.promises.specs.Calls.{Call, receive, tick, sample, slot, isSlot, step, poweredUp, slotAnswer, isFrame, frameIn}
 
@@ -32,11 +32,12 @@ abbrev pub sent : Head → List Call → List Frame
 sent h [] = []
 sent h (c ∷ cs) = frames h c ++ sent (step h c) cs
 
--- Power-up takes a node number N and four identity numbers, of 32 bits; a number that is not 1..127 is refused, and leaves a head too.
+-- Power-up takes a node number N, four identity numbers of 32 bits, and three names, each in an array of 32 bytes;
+-- a number that is not 1..127 is refused, and so is a name length out of range. Both leave a head too.
 pub record PowerUp : Type 0 where
   pub number : ℕ
   pub identity : Identity
-  pub fits : ValidIdentity identity
+  pub fits : FitsIdentity identity
 
 abbrev pub powered : PowerUp → Head
 powered p = poweredUp (p .number) (p .identity) .head

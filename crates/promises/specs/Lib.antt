@@ -28,6 +28,8 @@ pub mod Starts
 pub mod Staying
 pub mod ByEntries
 pub mod Words
+pub mod Transfers
+pub mod NamesRead
 pub mod Counting
 pub mod Demand2
 pub mod Demand3

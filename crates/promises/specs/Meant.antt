@@ -4,8 +4,10 @@ use mathlib.Core.Path.{_≡_}
 use mathlib.Core.Bool.{true, false, _||_}
 use Rattle.can.specs.declared.Received.{Received}
 use Rattle.can.specs.Frame.{refusalOf}
+use Rattle.names.specs.Transfer.{noTransfer}
 use Rattle.sdo.specs.Request.{aborting}
-use Rattle.sdo.specs.Service.{Due, confirmation, due}
+use Rattle.sdo.specs.Service.{Due, confirmation}
+use Rattle.sdo.specs.Upload.{dueIn}
 use Rattle.parts.specs.declared.Head.{Head}
 use Rattle.promises.specs.States.{CommandedState, operational, isIn, isInitialising, isLive, node, Reset}
 use Rattle.promises.specs.States.{Command, noCommand, toEnter, toReset, command, byteOf, commandOf}
@@ -38,12 +40,15 @@ pub record Synchronises (h : Head) (f : Received) : Type 0 where
   pub length : f .length ≤ 1
   pub operational : isIn operational (h .core) ≡ true
 
--- The frames that are meant for the head: commands that name another state, resets, SYNC, and service requests that get a reply.
+-- The frames that are meant for the head: commands that name another state, resets, SYNC, service requests that get a reply,
+-- and the client's abort of a transfer.
 pub data MeantFor (h : Head) (f : Received) : Type 0 where
   to-enter : (g : CommandedState) → Commands h f (toEnter g) → isIn g (h .core) ≡ false → MeantFor h f
   to-reset : (r : Reset) → Commands h f (toReset r) → MeantFor h f
   to-synchronise : Synchronises h f → MeantFor h f
   to-serve : Requests h f → aborting (f .bytes) ≡ false → MeantFor h f
+  -- The client's abort ends the transfer without a reply.
+  to-end : Requests h f → aborting (f .bytes) ≡ true → (h .transfer ≡ noTransfer → ⊥) → MeantFor h f
 
 -- Why a frame is not meant for the head.
 pub data NotMeant (h : Head) (f : Received) : Type 0 where
@@ -69,12 +74,12 @@ pub data NotMeant (h : Head) (f : Received) : Type 0 where
   request-state : f .identifier ≡ 0x600 + node (h .core) → isLive (h .core) ≡ false → NotMeant h f
   -- While a reply waits, a further request has no effect.
   reply-waits : f .identifier ≡ 0x600 + node (h .core) → waits h sdoReply ≡ true → NotMeant h f
-  -- 4 abort (no effect, no reply)
-  client-abort : f .identifier ≡ 0x600 + node (h .core) → aborting (f .bytes) ≡ true → NotMeant h f
+  -- 4 abort (no effect, no reply), while no name is being read
+  client-abort : f .identifier ≡ 0x600 + node (h .core) → aborting (f .bytes) ≡ true → h .transfer ≡ noTransfer → NotMeant h f
 
 -- what is due to it
 abbrev pub dueTo : Head → Received → Due
-dueTo h f = due (h .core .device) (isIn operational (h .core)) (f .bytes)
+dueTo h f = dueIn (h .core .device) (isIn operational (h .core)) (h .transfer) (f .bytes)
 
 -- A write of v to the entry of key k that is accepted.
 pub record Writes (h : Head) (f : Received) (k v : ℕ) : Type 0 where

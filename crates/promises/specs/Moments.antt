@@ -14,11 +14,11 @@ use Rattle.parts.specs.declared.Head.{Head}
 use Rattle.promises.specs.States.{operational, stopped, preOperational, isIn, isInitialising, isLive, node, communication}
 use Rattle.promises.specs.States.{good, PdoNumber, one, two, pdo, Command, noCommand, toEnter, toReset, commandOf}
 use Rattle.promises.specs.WaitingLine.{Kind, emergency, sdoReply, heartbeat, tpdo}
-use Rattle.promises.specs.Calls.{Call, receive, tick, sample, slot, isSlot, step}
+use Rattle.promises.specs.Calls.{Call, receive, tick, sample, slot, isSlot, isHeard, step}
 use Rattle.promises.specs.Valid.{waits}
 use Rattle.promises.specs.Meant.{Commands, Requests, Synchronises, Writes, dueTo}
 use Rattle.promises.specs.Histories.{after, PowerUp, powered}
-use Rattle.promises.specs.Service.{isHeard, isRequest, confirms}
+use Rattle.promises.specs.Service.{isRequest, confirms}
 use Rattle.promises.specs.Withdrawals.{identifierKey}
 
 -- `Synchronises` and the command that enters Operational, as tests

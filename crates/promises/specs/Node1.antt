@@ -3,13 +3,10 @@ use Prim.Native.Nat.{ℕ}
 use mathlib.Core.Bool.{false}
 use mathlib.Core.List.{List, [], _∷_}
 use Rattle.can.specs.declared.Received.{Received}
-use Rattle.entries.specs.declared.Identity.{Identity}
+use Rattle.dictionary.specs.Worked.{identity1}
 use Rattle.sdo.specs.Worked.{bytes}
 use Rattle.parts.specs.declared.Head.{Head}
 use Rattle.promises.specs.Calls.{Call, receive, slot, poweredUp}
-
-abbrev pub identity1 : Identity
-identity1 = record { vendor = 1; product = 2; revision = 3; serial = 4 }
 
 abbrev pub node1 : Head
 node1 = poweredUp 1 identity1 .head

@@ -4,23 +4,22 @@ use Prim.Native.Nat.{ℕ, _+_, _≤_}
 use lib.Dec.{eqb}
 use mathlib.Core.Path.{_≡_}
 use mathlib.Core.Logic.{_↔_}
-use mathlib.Core.Bool.{Bool, true, false, not, _&&_, _||_, cond}
+use mathlib.Core.Bool.{Bool, true, false, not, _&&_, cond}
 use mathlib.Core.List.{List, [], _∷_, _++_}
 use mathlib.Core.Option.{Option, none, some}
 use Rattle.cases.specs.Cases.{firstOf}
 use Rattle.can.specs.declared.Frame.{Frame}
 use Rattle.can.specs.declared.Received.{Received}
-use Rattle.can.specs.Frame.{refusalOf}
 use Rattle.sdo.specs.declared.reply.Served.{Served}
 use Rattle.sdo.specs.Request.{aborting}
 use Rattle.sdo.specs.Reply.{carriedOut}
-use Rattle.sdo.specs.Service.{Due, value, confirmation, abort, answer}
+use Rattle.sdo.specs.Service.{Due, value, confirmation, abort, upload, answer}
 use Rattle.waiting.specs.Places.{waiting}
 use Rattle.parts.specs.declared.Head.{Head}
-use Rattle.promises.specs.States.{operational, stopped, preOperational, isInitialising, isLive}
+use Rattle.promises.specs.States.{operational, stopped, preOperational, isLive}
 use Rattle.promises.specs.States.{node, Command, noCommand, toEnter, toReset, commandOf}
 use Rattle.promises.specs.WaitingLine.{sdoReply, number}
-use Rattle.promises.specs.Calls.{Call, receive, tick, sample, slot, step, slotAnswer, isFrame, frameIn}
+use Rattle.promises.specs.Calls.{Call, receive, tick, sample, slot, isHeard, step, slotAnswer, isFrame, frameIn}
 use Rattle.promises.specs.Valid.{waits}
 use Rattle.promises.specs.Meant.{Requests, dueTo}
 use Rattle.promises.specs.Histories.{after, sent, PowerUp, powered}
@@ -36,11 +35,9 @@ pub record Replied (h : Head) (f : Received) (then : Head) : Type 0 where
   pub joins : waiting (then .line) ≡ ahead ++ number sdoReply ∷ []
   pub bytes : then .core .reply ≡ replyDue h f .bytes
   pub device : then .core .device ≡ carriedOut (h .core .device) (replyDue h f .effect)
+  pub transfer : then .transfer ≡ replyDue h f .transfer
 
--- `Heard` and `Requests` as tests; 4 abort (no effect, no reply): every other request is answered.
-abbrev pub isHeard : Head → Received → Bool
-isHeard h f = eqb (refusalOf f) 0 && not (f .extended || f .remote || isInitialising (h .core))
-
+-- `Requests` as a test; 4 abort (no reply): every other request is answered.
 abbrev pub isRequest : Head → Received → Bool
 isRequest h f =
     isHeard h f
@@ -58,6 +55,7 @@ confirms t Due.none = false
 confirms t (value w n) = false
 confirms t (confirmation k v) = t k v
 confirms t (abort code) = false
+confirms t (upload b u) = false
 
 -- Reply: 580h+N, 8 bytes
 abbrev pub replyFrame : ℕ → List ℕ → Frame

@@ -1,13 +1,15 @@
 -- What power-up leaves, "It starts in Initialising with factory settings, the saved set equal to them, the reading
 -- missing, the error list empty", and which of it no call changes. 01, chapters "States", "Refusal numbers" and "Entries".
 use Prim.Native.Nat.{ℕ, _+_}
+use lib.ListN.{replicate}
 use mathlib.Core.Path.{_≡_}
 use mathlib.Core.Bool.{cond}
+use mathlib.Core.Logic.{_⊎_}
 use mathlib.Core.List.{List, [], _∷_, _++_, map}
 use mathlib.Core.Option.{some}
-use Rattle.cases.specs.Tests.{within}
 use Rattle.can.specs.declared.Received.{Received}
 use Rattle.can.specs.Number.{lowFirst}
+use Rattle.names.specs.declared.Name.{Name}
 use Rattle.entries.specs.declared.Identity.{Identity}
 use Rattle.entries.specs.Table.{table, index, sub, width}
 use Rattle.dictionary.specs.declared.read.Shown.{Shown}
@@ -18,14 +20,22 @@ use Rattle.promises.specs.Meant.{Commands, Requests, dueTo}
 use Rattle.promises.specs.Histories.{after, PowerUp, powered}
 use Rattle.promises.specs.Readings.{readsIn, dueShown}
 use Rattle.promises.specs.Resets.{Saves, None}
-use Rattle.promises.specs.Gap.{nodeOf}
+use Rattle.promises.specs.Gap.{isTaken, nodeOf}
 use Rattle.promises.specs.Node1.{dataFrame}
 use Rattle.promises.specs.Codes.{All}
-use Rattle.promises.specs.Demand1.{BadNode}
+use Rattle.promises.specs.Demand1.{BadNode, NamesFit}
 
--- The identity numbers of power-up; with a node number that is refused they are 0.
+-- 4's head (node 1, identity 0) and the name "?" for each
+abbrev pub question : Name
+question = record { bytes = 0x3F ∷ replicate 31 0; length = 1 }
+
+abbrev pub refusedIdentity : Identity
+refusedIdentity =
+    record { vendor = 0; product = 0; revision = 0; serial = 0; name = question; hardware = question; software = question }
+
+-- The identity numbers and the names of power-up; those of one that is refused are 0 and "?".
 abbrev pub identityOf : PowerUp → Identity
-identityOf p = cond (within 1 127 (p .number)) (p .identity) (record { vendor = 0; product = 0; revision = 0; serial = 0 })
+identityOf p = cond (isTaken p) (p .identity) refusedIdentity
 
 -- index, sub-index, bytes, and what it reads
 abbrev pub Line : Type 0
@@ -44,6 +54,10 @@ firstReads n i =
     (0x1003, 3, 4, Blank) ∷
     (0x1003, 4, 4, Blank) ∷
     (0x1005, 0, 4, Number 0x80) ∷
+    -- the size of each name
+    (0x1008, 0, 32, Number (i .name .length)) ∷
+    (0x1009, 0, 32, Number (i .hardware .length)) ∷
+    (0x100A, 0, 32, Number (i .software .length)) ∷
     (0x1010, 0, 1, Number 1) ∷
     (0x1010, 1, 4, Number 1) ∷
     (0x1011, 0, 1, Number 1) ∷
@@ -109,11 +123,11 @@ pub record Starts : Type 0 where
   pub restores : (p : PowerUp) (cs : List Call) → None Saves (powered p) cs → let h = after (powered p) cs in (f : Received) (r : Reset)
       → Commands h f (toReset r)
       → step h (receive f) .core .device .settings ≡ restored r (h .core .device .settings) (powered p .core .device .settings)
-  -- Power-up takes .. four identity numbers; no call alters them.
+  -- Power-up takes .. four identity numbers and three names; no call alters them.
   pub same-identity : (p : PowerUp) (cs : List Call) → after (powered p) cs .core .device .identity ≡ identityOf p
-  -- 4: .. and a head of node 1 with identity numbers 0
-  pub refused : (p : PowerUp) → BadNode (p .number) → (cs : List Call) → let d = after (powered p) cs .core .device in
-      (d .node ≡ 1) × (d .identity ≡ record { vendor = 0; product = 0; revision = 0; serial = 0 })
+  -- 4: .. and a head of node 1 with identity numbers 0; 5 gives the same, and both the name "?" for each
+  pub refused : (p : PowerUp) → BadNode (p .number) ⊎ (NamesFit (p .identity) → ⊥) → (cs : List Call)
+      → let d = after (powered p) cs .core .device in (d .node ≡ 1) × (d .identity ≡ refusedIdentity)
   -- 1018-1..4: identity
   pub identity-read : (p : PowerUp) (cs : List Call) → let h = after (powered p) cs in let i = identityOf p in
       (readsIn h 0x1018 1 ≡ some (Number (i .vendor)))

@@ -7,6 +7,7 @@ use lib.ListN.{getD}
 use Rattle.cases.specs.Cases.{firstOf}
 use Rattle.cases.specs.Padded.{pad}
 use Rattle.can.specs.declared.Received.{Received}
+use Rattle.names.specs.Transfer.{noTransfer}
 use Rattle.entries.specs.declared.Communication.{Communication}
 use Rattle.entries.specs.declared.Identity.{Identity}
 use Rattle.entries.specs.declared.Pdo.{Pdo}
@@ -87,8 +88,8 @@ atRest = record { inhibit = 0; heartbeat = 0; pdo1 = uncounted; pdo2 = uncounted
 abbrev pub missingReading : Reading
 missingReading = record { good = false; raw = 0 }
 
--- Power-up takes a node number N and four identity numbers. It starts in Initialising with factory settings, the saved set equal to them,
--- the reading missing, the error list empty, "good" counted as announced.
+-- Power-up takes a node number N, four identity numbers and three names. It starts in Initialising with factory settings, the saved set
+-- equal to them, the reading missing, the error list empty, "good" counted as announced.
 abbrev pub startedCore : ℕ → Identity → Core
 startedCore n i =
     record {
@@ -107,9 +108,9 @@ startedCore n i =
       reply = pad 8 [];
     }
 
--- Only the boot-up frame waits: the state Initialising means that it does, and no kind stands in the line.
+-- No name is being read. Only the boot-up frame waits: the state Initialising means that it does, and no kind stands in the line.
 abbrev pub started : ℕ → Identity → Head
-started n i = record { core = startedCore n i; line = pad places [] }
+started n i = record { core = startedCore n i; transfer = noTransfer; line = pad places [] }
 
 -- 81h sets all settings to the saved set; 82h only those below 2000h.
 pub data Reset : Type 0 where

@@ -10,6 +10,7 @@ use mathlib.Core.List.{List, [], _∷_}
 use Rattle.can.specs.declared.Received.{Received}
 use Rattle.can.specs.Number.{AreBytes}
 use Rattle.sdo.specs.Exactly.{Exactly, ValueWritten}
+use Rattle.sdo.specs.UploadLaws.{AsksSegment, Runs}
 use Rattle.waiting.specs.Places.{waiting}
 use Rattle.parts.specs.declared.Head.{Head}
 use Rattle.parts.specs.declared.Sensor.{Sensor}
@@ -21,6 +22,7 @@ use Rattle.promises.specs.Meant.{Commands, Requests, Synchronises, dueTo
 use Rattle.promises.specs.Histories.{after, slots, sent, PowerUp, powered, Reachable}
 use Rattle.promises.specs.Gap.{nodeOf, isCommand}
 use Rattle.promises.specs.Resets.{restoredBy82}
+use Rattle.promises.specs.Demand1.{NamesFit}
 use Rattle.promises.specs.Codes.{codeAfter, commandBytes, All, IsFirst}
 
 -- A list of calls, call by call: the head after it, its slots, and the frames that the slots send.
@@ -65,9 +67,9 @@ abbrev pub SavesOrLoads : Head → Received → Type 0
 SavesOrLoads h f = (v : ℕ) × (Writes h f 0x1010_01 v ⊎ Writes h f 0x1011_01 v)
 
 pub record Words : Type 0 where
-  -- Power-up takes a node number N and four identity numbers: the head has these after any calls.
-  pub taken : (p : PowerUp) (cs : List Call) → 1 ≤ p .number → p .number ≤ 127 → let d = after (powered p) cs .core .device in
-      (d .node ≡ p .number) × (d .identity ≡ p .identity)
+  -- Power-up takes a node number N, four identity numbers and three names: the head has these after any calls.
+  pub taken : (p : PowerUp) (cs : List Call) → 1 ≤ p .number → p .number ≤ 127 → NamesFit (p .identity)
+      → let d = after (powered p) cs .core .device in (d .node ≡ p .number) × (d .identity ≡ p .identity)
   pub follows : (h : Head) (cs : List Call) → Follows h cs
   -- NMT command: ..
   pub ordered : (n : ℕ) (t : ℕ → Bool) (f : Received) → (isCommand n t (receive f) ≡ true) ↔ ((b : ℕ) × (t b ≡ true) × Orders n b f)
@@ -75,9 +77,11 @@ pub record Words : Type 0 where
   -- SYNC ..
   pub synchronises : (p : PowerUp) (cs : List Call) (f : Received)
       → Synchronises (after (powered p) cs) f ↔ Syncs (codeAfter (nodeOf p) cs) f
-  -- First that applies: for the device as it is, Operational or not. (`requests` of specs/Codes.antt says what is served.)
+  -- First that applies: for the device as it is, Operational or not. (`requests` of specs/Codes.antt says what is served,
+  -- specs/Transfers.antt what is due to a segment request while a name is read.)
   pub due : (p : PowerUp) (cs : List Call) (f : Received) → AreBytes (f .bytes) → let h = after (powered p) cs in
-      Exactly (h .core .device) (eqb (codeAfter (nodeOf p) cs) 0x05) (f .bytes) (dueTo h f)
+      (Runs (h .transfer) → AsksSegment (f .bytes) → ⊥)
+      → Exactly (h .core .device) (eqb (codeAfter (nodeOf p) cs) 0x05) (f .bytes) (dueTo h f)
   -- An accepted write is a served request that gives the entry of key k the value v.
   pub writes : (h : Head) (f : Received) (k v : ℕ) → AreBytes (f .bytes)
       → Writes h f k v ↔ (Requests h f × ValueWritten (h .core .device) (f .bytes) k v)

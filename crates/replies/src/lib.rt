@@ -1,8 +1,9 @@
 //! Builds the reply's eight bytes, and says what the request does: 01, "Service requests".
 ghost use mathlib.Core.Path.{_≡_};
-ghost use Rattle.sdo.specs.Reply.{framed as framedBy, command, noReply, aborted, confirmed, shownReply};
+ghost use Rattle.sdo.specs.Reply.{framed as framedBy, command, noReply, aborted, confirmed, segmented, shownReply};
 use can::Bytes;
 use dictionary::read::Shown;
+use names::Transfer;
 use sdo::reply::Effect;
 use sdo::reply::Served;
 
@@ -16,6 +17,9 @@ const READ_2_BYTES: u8 = 0x4B;
 
 const READ_4_BYTES: u8 = 0x43;
 
+// The size is announced, and segments follow.
+const READ_NAME: u8 = 0x41;
+
 const NO_DATA: u32 = 0x0800_0024;
 
 pub fn no_reply() -> Served
@@ -24,6 +28,7 @@ pub fn no_reply() -> Served
     Served {
         bytes: [0, 0, 0, 0, 0, 0, 0, 0],
         effect: Effect::Nothing,
+        transfer: Transfer::NONE,
     }
 }
 
@@ -34,6 +39,7 @@ pub fn abort(request: Bytes, code: u32) -> Served
     Served {
         bytes: bytes,
         effect: Effect::Reply,
+        transfer: Transfer::NONE,
     }
 }
 
@@ -44,6 +50,7 @@ pub fn confirm(request: Bytes, key: u32, value: u32) -> Served
     Served {
         bytes: bytes,
         effect: Effect::Write { key, value },
+        transfer: Transfer::NONE,
     }
 }
 
@@ -57,6 +64,18 @@ pub fn shown(request: Bytes, width: u8, entry: Shown) -> Served
     Served {
         bytes: bytes,
         effect: Effect::Reply,
+        transfer: names::started(can::word(request[1], request[2])),
+    }
+}
+
+// The reply to the segment request that is due, and the transfer that goes on.
+pub fn segment(bytes: Bytes, transfer: Transfer) -> Served
+    ensures { λ r. ⌜ r ≡ segmented bytes transfer ⌝ }
+{
+    Served {
+        bytes,
+        effect: Effect::Reply,
+        transfer,
     }
 }
 
@@ -69,7 +88,10 @@ fn command_for(width: u8) -> u8
     if width == 2 {
         return READ_2_BYTES;
     }
-    READ_4_BYTES
+    if width == 4 {
+        return READ_4_BYTES;
+    }
+    READ_NAME
 }
 
 fn framed(first: u8, request: Bytes, content: u32) -> Bytes

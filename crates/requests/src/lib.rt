@@ -1,6 +1,6 @@
 //! Takes a request's eight bytes apart: a read, a write, or an unknown command. 01, "Service requests".
 ghost use mathlib.Core.Path.{_≡_};
-ghost use Rattle.sdo.specs.Request.{isAbort, indexOf, dataOf, saidLength, takenApart};
+ghost use Rattle.sdo.specs.Request.{isAbort, isSegment, toggleIn, indexOf, dataOf, saidLength, takenApart};
 use can::Bytes;
 use sdo::request::Access;
 use sdo::request::Ask;
@@ -13,10 +13,25 @@ const WRITE: u8 = 1;
 
 const ABORT: u8 = 4;
 
+const SEGMENT: u8 = 3;
+
 pub fn is_abort(command: u8) -> bool
     ensures { λ r. ⌜ r ≡ isAbort command ⌝ }
 {
     command / 32 == ABORT
+}
+
+pub fn is_segment(command: u8) -> bool
+    ensures { λ r. ⌜ r ≡ isSegment command ⌝ }
+{
+    command / 32 == SEGMENT
+}
+
+// The toggle of a segment request.
+pub fn toggle(command: u8) -> u8
+    ensures { λ r. ⌜ r ≡ toggleIn command ⌝ }
+{
+    command / 16 % 2
 }
 
 pub fn taken_apart(bytes: Bytes) -> Request

@@ -6,6 +6,7 @@ use Rattle.entries.specs.Table.{entries, table, lookup}
 use Rattle.dictionary.specs.Reads.{shownAt}
 use Rattle.dictionary.specs.Writes.{written}
 use Rattle.sdo.specs.Service.{due}
+use Rattle.sdo.specs.Upload.{dueIn}
 use Rattle.parts.specs.declared.Sensor.the-variants.{Missing}
 use Rattle.promises.specs.Acts.{settledTo, act}
 use Rattle.promises.specs.Calls.{sample, step}
@@ -17,15 +18,15 @@ use Rattle.runs.specs.Busy.{busyLine, busyMaster, held, wait, Busy}
 use Rattle.runs.proofs.Node1.{power-up}
 
 unrelieved : Unrelieved 1 (step (after node1 busyLine) (sample Missing)) busyMaster
-unfolding entries table lookup shownAt written due act settledTo
+unfolding entries table lookup shownAt written due dueIn act settledTo
 unrelieved = record { missing = refl; alerting = refl; running = refl }
 
 unrelieved-still : Unrelieved 1 (after node1 (held ++ wait)) busyMaster
-unfolding entries table lookup shownAt written due act settledTo
+unfolding entries table lookup shownAt written due dueIn act settledTo
 unrelieved-still = record { missing = refl; alerting = refl; running = refl }
 
 pub busy-line : Busy
-unfolding entries table lookup shownAt written due act settledTo
+unfolding entries table lookup shownAt written due dueIn act settledTo
 busy-line =
     record {
       before = refl;

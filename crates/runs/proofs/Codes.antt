@@ -4,12 +4,13 @@ use Rattle.entries.specs.Table.{entries, table, lookup}
 use Rattle.dictionary.specs.Reads.{shownAt}
 use Rattle.dictionary.specs.Writes.{written}
 use Rattle.sdo.specs.Service.{due}
+use Rattle.sdo.specs.Upload.{dueIn}
 use Rattle.promises.specs.States.{operational, stopped}
 use Rattle.promises.specs.Acts.{reset, settledTo, act}
 use Rattle.runs.specs.Codes.{CodesMet}
 
 pub codes-met : CodesMet
-unfolding entries table lookup shownAt written due act settledTo
+unfolding entries table lookup shownAt written due dueIn act settledTo
 codes-met =
     record {
       pre-operational = record { is-first = refl; its-code = refl; sent = refl };

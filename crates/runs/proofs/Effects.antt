@@ -18,16 +18,19 @@ use Rattle.dictionary.specs.Writes.{written}
 use Rattle.dictionary.specs.Worked.{save, load, writes as allWrites}
 use Rattle.sdo.specs.Request.{indexOf, subOf}
 use Rattle.sdo.specs.Service.{confirmation, dueOf, due}
+use Rattle.sdo.specs.Upload.{dueIn}
 use Rattle.sdo.specs.Worked.{bytes}
 use Rattle.waiting.specs.Line.{places}
 use Rattle.parts.specs.declared.Head.{Head}
 use Rattle.parts.specs.declared.Sensor.the-variants.{Raw}
 use Rattle.promises.specs.States.{preOperational, state, atRest}
+use Rattle.names.specs.Transfer.{noTransfer}
 use Rattle.promises.specs.Acts.{settledTo, act}
 use Rattle.promises.specs.Calls.{Call, sample, slot}
 use Rattle.promises.specs.Meant.{Requests, dueTo}
 use Rattle.promises.specs.Histories.{after}
-use Rattle.promises.specs.Node1.{identity1, node1, toNode1, writes}
+use Rattle.dictionary.specs.Worked.{identity1}
+use Rattle.promises.specs.Node1.{node1, toNode1, writes}
 use Rattle.runs.specs.Effects.{ready, writing, Met, MetWhenReady}
 use Rattle.runs.proofs.Node1.{reached}
 
@@ -42,6 +45,7 @@ standing r told s reply =
         timers = atRest;
         reply = reply;
       };
+      transfer = noTransfer;
       line = pad places [];
     }
 
@@ -86,15 +90,15 @@ unfolding act settledTo
 to-fresh = refl
 
 to-one-off : after fresh off1 ≡ one-off
-unfolding entries table lookup written due act settledTo
+unfolding entries table lookup written due dueIn act settledTo
 to-one-off = refl
 
 to-both-off : after one-off off2 ≡ both-off
-unfolding entries table lookup written due act settledTo
+unfolding entries table lookup written due dueIn act settledTo
 to-both-off = refl
 
 to-scaled : after both-off scale ≡ scaled
-unfolding entries table lookup written due act settledTo
+unfolding entries table lookup written due dueIn act settledTo
 to-scaled = refl
 
 ready-is : after node1 ready ≡ scaled
@@ -109,29 +113,29 @@ module _ (w : ℕ × ℕ) where
 
   found : (p : ℕ) → lookup (indexOf f) (subOf f) ≡ At p → dueOf (scaled .core .device) false f (At p) ≡ confirmation (w .0) (w .1)
       → dueTo scaled (writing w) ≡ confirmation (w .0) (w .1)
-  unfolding due
+  unfolding due dueIn
   found p e a = ap (dueOf (scaled .core .device) false f) e ∙ a
 
 each-written : Each (λ w. dueTo scaled (writing w) ≡ confirmation (w .0) (w .1)) allWrites
 unfolding entries table lookup
 each-written =
     found (0x1003_00, 0) 2 refl refl
-    ▸ found (0x1010_01, save) 9 refl refl
-    ▸ found (0x1011_01, load) 11 refl refl
-    ▸ found (0x1014_00, 0x80000081) 12 refl refl
-    ▸ found (0x1015_00, 10) 13 refl refl
-    ▸ found (0x1017_00, 1000) 14 refl refl
-    ▸ found (0x1800_01, 0x181) 21 refl refl
-    ▸ found (0x1800_02, 240) 22 refl refl
-    ▸ found (0x1800_05, 7) 23 refl refl
-    ▸ found (0x1801_01, 0x57F) 25 refl refl
-    ▸ found (0x1801_02, 255) 26 refl refl
-    ▸ found (0x1801_05, 65535) 27 refl refl
-    ▸ found (0x6000_00, 12) 32 refl refl
-    ▸ found (0x6002_00, 1000) 33 refl refl
-    ▸ found (0x6003_00, 999999) 34 refl refl
-    ▸ found (0x6005_01, 10000) 37 refl refl
-    ▸ found (0x6200_00, 8) 38 refl refl
+    ▸ found (0x1010_01, save) 12 refl refl
+    ▸ found (0x1011_01, load) 14 refl refl
+    ▸ found (0x1014_00, 0x80000081) 15 refl refl
+    ▸ found (0x1015_00, 10) 16 refl refl
+    ▸ found (0x1017_00, 1000) 17 refl refl
+    ▸ found (0x1800_01, 0x181) 24 refl refl
+    ▸ found (0x1800_02, 240) 25 refl refl
+    ▸ found (0x1800_05, 7) 26 refl refl
+    ▸ found (0x1801_01, 0x57F) 28 refl refl
+    ▸ found (0x1801_02, 255) 29 refl refl
+    ▸ found (0x1801_05, 65535) 30 refl refl
+    ▸ found (0x6000_00, 12) 35 refl refl
+    ▸ found (0x6002_00, 1000) 36 refl refl
+    ▸ found (0x6003_00, 999999) 37 refl refl
+    ▸ found (0x6005_01, 10000) 40 refl refl
+    ▸ found (0x6200_00, 8) 41 refl refl
     ▸ end
 
 in-turn : {A B : Type 0} (f g : A → B) {l : List A} → Each (λ a. f a ≡ g a) l → map f l ≡ map g l
@@ -139,7 +143,7 @@ in-turn f g end = refl
 in-turn f g (e ▸ es) = ap₂ _∷_ e (in-turn f g es)
 
 pub met : MetWhenReady
-unfolding entries table lookup abortCode shownAt due
+unfolding entries table lookup abortCode shownAt due dueIn
 met =
     subst Met (sym ready-is)
     (record {

@@ -5,6 +5,7 @@ use Rattle.entries.specs.Table.{entries, table, lookup}
 use Rattle.dictionary.specs.Reads.{shownAt}
 use Rattle.dictionary.specs.Writes.{written}
 use Rattle.sdo.specs.Service.{due}
+use Rattle.sdo.specs.Upload.{dueIn}
 use Rattle.promises.specs.Acts.{settledTo, act}
 use Rattle.promises.specs.Calls.{tick}
 use Rattle.promises.specs.Node1.{asks}
@@ -12,7 +13,7 @@ use Rattle.runs.specs.FullLine.{begun, full, FullLine}
 use Rattle.runs.proofs.Node1.{reached}
 
 pub full-line : FullLine
-unfolding entries table lookup shownAt written due act settledTo
+unfolding entries table lookup shownAt written due dueIn act settledTo
 full-line =
     record {
       no-slot = refl;

@@ -6,6 +6,7 @@ use Rattle.entries.specs.Table.{entries, table, lookup}
 use Rattle.dictionary.specs.Reads.{shownAt}
 use Rattle.dictionary.specs.Writes.{written}
 use Rattle.sdo.specs.Service.{due}
+use Rattle.sdo.specs.Upload.{dueIn}
 use Rattle.sdo.specs.Worked.{bytes}
 use Rattle.promises.specs.States.{two}
 use Rattle.promises.specs.Acts.{settledTo, act}
@@ -14,7 +15,7 @@ use Rattle.promises.specs.PassedOver.{syncs}
 use Rattle.runs.specs.Joining.{Joining}
 
 pub joining : Joining
-unfolding entries table lookup shownAt written due act settledTo
+unfolding entries table lookup shownAt written due dueIn act settledTo
 joining =
     record {
       beats = refl;

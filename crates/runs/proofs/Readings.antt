@@ -6,6 +6,7 @@ use Rattle.entries.specs.Table.{entries, table, lookup}
 use Rattle.dictionary.specs.Reads.{shownAt}
 use Rattle.dictionary.specs.Writes.{written}
 use Rattle.sdo.specs.Service.{due}
+use Rattle.sdo.specs.Upload.{dueIn}
 use Rattle.parts.specs.declared.Head.{Head}
 use Rattle.parts.specs.declared.Sensor.the-variants.{Raw}
 use Rattle.promises.specs.Acts.{settledTo, act}
@@ -30,7 +31,7 @@ still : (h : Head) (c : Call) → may-move c ≡ false → Moves h c → ⊥
 still h c e m = true-false (sym (moves-so h c m) ∙ e)
 
 pub positioning : Positioning
-unfolding entries table lookup shownAt written due act settledTo
+unfolding entries table lookup shownAt written due dueIn act settledTo
 positioning =
     record {
       blank-at-first = refl;

@@ -7,7 +7,8 @@ use borrow.Author.Tests.{eqb-false}
 use Rattle.entries.specs.Table.{entries, table, lookup}
 use Rattle.dictionary.specs.Reads.{shownAt}
 use Rattle.dictionary.specs.Writes.{written}
-use Rattle.sdo.specs.Service.{Due, none, value, confirmation, abort, due}
+use Rattle.sdo.specs.Service.{Due, none, value, upload, confirmation, abort, due}
+use Rattle.sdo.specs.Upload.{dueIn}
 use Rattle.sdo.specs.Worked.{bytes}
 use Rattle.promises.specs.Acts.{settledTo, act}
 use Rattle.promises.specs.Calls.{receive}
@@ -23,11 +24,12 @@ use Rattle.runs.specs.Starts.{StartsMet}
 abbrev keyIn : Due → ℕ
 keyIn none = 0
 keyIn (value w m) = 0
+keyIn (upload b t) = 0
 keyIn (confirmation k v) = k
 keyIn (abort code) = 0
 
 pub starts-met : StartsMet
-unfolding entries table lookup shownAt written due act settledTo
+unfolding entries table lookup shownAt written due dueIn act settledTo
 starts-met =
     record {
       none-saves = (λ x. x, (λ x. x, (unsaving, (λ x. x, tt))));

@@ -8,3 +8,4 @@ pub mod Codes
 pub mod Joining
 pub mod FullLine
 pub mod Busy
+pub mod Names

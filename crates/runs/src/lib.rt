@@ -6,6 +6,7 @@ ghost use Rattle.runs.specs.Effects.{MetWhenReady};
 ghost use Rattle.runs.specs.ErrorList.{Losing};
 ghost use Rattle.runs.specs.FullLine.{FullLine};
 ghost use Rattle.runs.specs.Joining.{Joining};
+ghost use Rattle.runs.specs.Names.{Naming};
 ghost use Rattle.runs.specs.Readings.{Positioning};
 ghost use Rattle.runs.specs.Resets.{MetByLoad, MetBySave, Restoring};
 ghost use Rattle.runs.specs.Service.{Serving};
@@ -15,6 +16,6 @@ ghost use Rattle.runs.specs.Starts.{StartsMet};
 fn statements()
     ensures { λ _. ⌜
         FullLine × Busy × Joining × CodesMet × Serving × MetWhenReady × Positioning × Losing × MetBySave × MetByLoad
-        × Restoring × StartsMet
+        × Restoring × StartsMet × Naming
         ⌝ }
 {}

@@ -22,11 +22,11 @@ use Rattle.parts.specs.declared.Sensor.the-variants.{Missing, Raw}
 use Rattle.promises.specs.States.{isLive, communication, good, missingReading, PdoNumber, one, two, pdo}
 use Rattle.promises.specs.WaitingLine.{Kind, emergency, sdoReply, heartbeat, tpdo, those, isAlerting, mayStay, mayShow}
 use Rattle.promises.specs.Acts.{take, lose, taking, losing, errorsAfter, emergencyOnly, goes, comes, settledTo, act}
-use Rattle.promises.specs.Calls.{sample, badSample, sampledAs, answered}
+use Rattle.promises.specs.Calls.{sample, badSample, sampledAs, answered, refusalBy}
 use Rattle.promises.specs.Valid.{Valid}
 use Rattle.promises.specs.Promised.{Samples}
 use Rattle.promises.proofs.KindNumbers.{kindAt}
-use Rattle.promises.proofs.Nothing.{act-nothing}
+use Rattle.promises.proofs.Nothing.{act-step, step-nothing}
 use Rattle.promises.proofs.Valid.{valid-step}
 use Rattle.samples.specs.declared.Sampled.{Sampled}
 use Rattle.samples.specs.declared.Missed.{Missed}
@@ -89,11 +89,14 @@ module _ (h : Head) (v : Valid h) where
         Sampling (sampledOf (c .nmt) (communication c .emergency) inhibit (c .device .reading) (c .announced) (h .line) raw)
     samples-raw =
         by Sampling (badSample (Raw raw))
-        (λ b. rw b (ap (answered 3) (sym (act-nothing h)), v))
+        (λ b.
+        let number : 3 ≡ refusalBy (sample (Raw raw)) = rw b in
+        (ap₂ answered number (sym (step-nothing h (sample (Raw raw)) refl (rw b) refl)), v))
         (λ b.
         let m : sampledAs (Raw raw) ≡ take raw = rw b in
-        let p = taken ∙ sym (ap (act false h) m) in
-        (rw b (ap (answered 0) taken), subst Valid (sym p) (valid-step h (sample (Raw raw)) v)))
+        let number : 0 ≡ refusalBy (sample (Raw raw)) = rw b in
+        let p = taken ∙ sym (ap (act false h) m) ∙ act-step h (sample (Raw raw)) refl in
+        (ap₂ answered number p, subst Valid (sym p) (valid-step h (sample (Raw raw)) v)))
 
   -- those that go when a good reading goes missing
   abbrev gone : Kind → Bool
@@ -158,5 +161,5 @@ module _ (h : Head) (v : Valid h) where
       let z = missedOf (c .nmt) (communication c) inhibit (good c) (c .device .errors) (c .announced) (h .line) in
       Samples h Missing (answered 0 (missed z))
   samples-missing =
-      let p = by Missing-left (good c) lost-now lost-on in
+      let p = by Missing-left (good c) lost-now lost-on ∙ act-step h (sample Missing) refl in
       (ap (answered 0) p, subst Valid (sym p) (valid-step h (sample Missing) v))

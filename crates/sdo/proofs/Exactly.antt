@@ -17,7 +17,7 @@ use Rattle.dictionary.specs.declared.read.Shown.the-variants.{Blank, Number}
 use Rattle.dictionary.specs.Reads.{shownAt}
 use Rattle.dictionary.specs.Accepted.{acceptsIn, isSignature, barred}
 use Rattle.sdo.specs.Request.{dataOf}
-use Rattle.sdo.specs.Service.{Due, none, value, confirmation, abort, isBlank, numberIn, lengthOf, cutTo, due}
+use Rattle.sdo.specs.Service.{Due, none, value, confirmation, abort, upload, isBlank, numberIn, lengthOf, cutTo, due}
 use Rattle.sdo.specs.Exactly.{Exactly}
 use Rattle.sdo.specs.Exactly as S
 use Rattle.sdo.proofs.Ways.{writeDue, client, unknown, no-index, no-sub-index, reads, writes, each-way}
@@ -36,7 +36,7 @@ cut-is f h =
     let b = byte-at f h 5 in
     let c = byte-at f h 6 in
     let e = byte-at f h 7 in
-    each-width (λ w. cutTo w (dataOf f) ≡ number (S.firstData w f)) (omega arith) (omega arith) (omega arith)
+    each-width (λ w. cutTo w (dataOf f) ≡ number (S.firstData w f)) (omega arith) (omega arith) (omega arith) (omega arith)
 
 left : (a b : Bool) → a ≡ true → (a && b) ≡ false → b ≡ false
 left true b d e = e
@@ -87,6 +87,7 @@ module _ (d : Device) (o : Bool) (f : List ℕ) (bytes : AreBytes f) where
   Tells (value w n) = S.ValueRead d o f w n
   Tells (confirmation k v) = S.ValueWritten d f k v
   Tells (abort c) = Reason c
+  Tells (upload b t) = ⊥
 
   module _ (P : Due → Type 0) (none-so : S.ClientAborts f → P none) (unknown-so : S.UnknownCommand f → P (abort 0x05040001))
       (no-index-so : S.NoSuchIndex f → P (abort 0x06020000)) (no-sub-index-so : S.NoSuchSubIndex f → P (abort 0x06090011))

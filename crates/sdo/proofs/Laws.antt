@@ -24,7 +24,7 @@ use Rattle.dictionary.proofs.Laws.{laws as dictionaryLaws}
 use Rattle.sdo.specs.declared.reply.Effect.the-variants.{Write}
 use Rattle.sdo.specs.Request.{byte, top, indexOf, subOf, dataOf, aborting, reading, writing}
 use Rattle.sdo.specs.Reply.{command, replies, carriedOut}
-use Rattle.sdo.specs.Service.{Due, none, value, confirmation, abort, answer, lengthOf, cutTo, steps, dueOf, due}
+use Rattle.sdo.specs.Service.{Due, none, value, confirmation, abort, upload, answer, lengthOf, cutTo, steps, dueOf, due}
 use Rattle.sdo.specs.Exactly.{ClientAborts, firstData}
 use Rattle.sdo.specs.Laws.{Told, Alike, Answers, served, Laws}
 use Rattle.sdo.proofs.Place.{entry}
@@ -39,25 +39,46 @@ module _ (d : Device) (o : Bool) (f : List ℕ) where
   unaltered-by (value w n) h = refl
   unaltered-by (confirmation k v) h = absurd (h refl)
   unaltered-by (abort c) h = refl
+  unaltered-by (upload b t) h = refl
 
   writes-by : (x : Due) (k v : ℕ) → answer f x .effect ≡ Write k v → x ≡ confirmation k v
   writes-by none k v e = absurd (let z : _≡_ {A = ℕ} 0 1 = cc in omega arith)
   writes-by (value w n) k v e = absurd (let z : _≡_ {A = ℕ} 0 1 = cc in omega arith)
   writes-by (confirmation i j) k v e = cc
   writes-by (abort c) k v e = absurd (let z : _≡_ {A = ℕ} 0 1 = cc in omega arith)
+  writes-by (upload b t) k v e = absurd (let z : _≡_ {A = ℕ} 0 1 = cc in omega arith)
 
   valid-by : (x : Found) (y : Due) → Told d o f x y → ValidDevice d → ValidDevice (carriedOut d (answer f y .effect))
   valid-by x none t h = h
   valid-by x (value w n) t h = h
   valid-by x (confirmation k v) t h = rw (t .key) (dictionaryLaws .written-valid d (t .place) v (t .takes) h)
   valid-by x (abort c) t h = h
+  valid-by x (upload b u) t h = h
 
-  replied-by : (y : Due) → replies (answer f y .effect) ≡ true
+  -- no segment is due to a first request
+  abbrev pub First : Due → Type 0
+  First none = Unit {0}
+  First (value w n) = Unit {0}
+  First (confirmation k v) = Unit {0}
+  First (abort c) = Unit {0}
+  First (upload b t) = ⊥
+
+  first-of : (x : Found) → First (dueOf d o f x)
+  first-of x =
+      by First (aborting f) (λ _. tt)
+      (λ _. first-each First (steps d o f x) _ (tt ▸ tt ▸ tt ▸ tt ▸ tt ▸ tt ▸ tt ▸ tt ▸ tt ▸ tt ▸ end) tt)
+
+  pub first : First (due d o f)
+  unfolding due
+  first = first-of (lookup (indexOf f) (subOf f))
+
+  replied-by : (y : Due) → First y → replies (answer f y .effect) ≡ true
       → let r = answer f y .bytes in (byte r 1 ≡ byte f 1) × (byte r 2 ≡ byte f 2) × (byte r 3 ≡ byte f 3)
-  replied-by none h = true-false (sym h)
-  replied-by (value w n) h = (refl, refl, refl)
-  replied-by (confirmation k v) h = (refl, refl, refl)
-  replied-by (abort c) h = (refl, refl, refl)
+  replied-by none t h = true-false (sym h)
+  replied-by (value w n) t h = (refl, refl, refl)
+  replied-by (confirmation k v) t h = (refl, refl, refl)
+  replied-by (abort c) t h = (refl, refl, refl)
+  replied-by (upload b u) t h = absurd t
 
   replied-of : (x : Found) → replies (answer f (dueOf d o f x) .effect) ≡ not (aborting f)
   replied-of x =
@@ -75,13 +96,12 @@ module _ (d : Device) (o : Bool) (f : List ℕ) where
   number-is true m n e = absurd (let z : _≡_ {A = ℕ} 0 1 = cc in omega arith)
   number-is false m n e = cc
 
-  unused-by : (x : Found) (w n : ℕ) → Told d o f x (value w n) → ValidDevice d → lowFirst 4 n ≡ lowFirst w n ++ replicate (4 - w) 0
+  unused-by : (x : Found) (w n : ℕ) → Told d o f x (value w n) → ValidDevice d → w ≤ 4 → lowFirst 4 n ≡ lowFirst w n ++ replicate (4 - w) 0
   unfolding shownAt
-  unused-by x w n t h =
+  unused-by x w n t h short =
       let e = getD entries (t .place) noEntry in
       let m : e .number d o ≡ n = number-is (e .blank d) (e .number d o) n (t .shown) in
       let fits : n < 256 ^ w = rw (← m, t .its-width) (dictionaryLaws .typed d o (t .place) (t .stands) h) in
-      let short : w ≤ 4 = rw (t .its-width) (each-width (λ k. k ≤ 4) (omega arith) (omega arith) (omega arith) (t .place) (t .stands)) in
       let four : w + (4 - w) ≡ 4 = omega arith in
       ap (λ (k : ℕ). lowFirst k n) (sym four) ∙ numbers .unused w (4 - w) n fits
 
@@ -96,10 +116,11 @@ one =
       top = refl;
       bit4 = refl;
       length = refl;
-      low = refl;
+      low = λ e. refl;
       one = λ e. refl;
       two = λ e. omega arith;
       four = λ e. omega arith;
+      name = λ e. omega arith;
     }
 
 two : Answers-by 2
@@ -109,23 +130,39 @@ two =
       top = refl;
       bit4 = refl;
       length = refl;
-      low = refl;
+      low = λ e. refl;
       one = λ e. omega arith;
       two = λ e. refl;
       four = λ e. omega arith;
+      name = λ e. omega arith;
     }
 
 four : Answers-by 4
 four =
     record {
-      widths = inr (inr refl);
+      widths = inr (inr (inl refl));
       top = refl;
       bit4 = refl;
       length = refl;
-      low = refl;
+      low = λ e. refl;
       one = λ e. omega arith;
       two = λ e. omega arith;
       four = λ e. refl;
+      name = λ e. omega arith;
+    }
+
+name : Answers-by 32
+name =
+    record {
+      widths = inr (inr (inr refl));
+      top = refl;
+      bit4 = refl;
+      length = refl;
+      low = λ e. omega arith;
+      one = λ e. omega arith;
+      two = λ e. omega arith;
+      four = λ e. omega arith;
+      name = λ e. refl;
     }
 
 -- a read is no other request, and neither is a write
@@ -145,6 +182,7 @@ same-cut f g =
     each-width (λ w. firstData w f ≡ firstData w g → cutTo w (dataOf f) ≡ cutTo w (dataOf g))
     (λ e. omega (arith, nth 0 e))
     (λ e. omega (arith, nth 0 e, nth 1 e))
+    (λ e. omega (arith, nth 0 e, nth 1 e, nth 2 e, nth 3 e))
     (λ e. omega (arith, nth 0 e, nth 1 e, nth 2 e, nth 3 e))
 
 module _ (d : Device) (o : Bool) (f g : List ℕ) (l : Alike f g) where
@@ -189,16 +227,16 @@ module _ (d : Device) (o : Bool) (f : List ℕ) where
 
   repeated : (ClientAborts f → ⊥)
       → let r = served d o f .bytes in (byte r 1 ≡ byte f 1) × (byte r 2 ≡ byte f 2) × (byte r 3 ≡ byte f 3)
-  repeated e = replied-by d o f (due d o f) (replied d o f ∙ rw (ne-eqb _ _ e))
+  repeated e = replied-by d o f (due d o f) (first d o f) (replied d o f ∙ rw (ne-eqb _ _ e))
 
   answers : (w n : ℕ) → due d o f ≡ value w n → Answers w (getD (served d o f .bytes) 0 0)
-  answers w n e = let t = rw e at (told d o f) in rw (e, t .its-width) (each-width Answers-by one two four (t .place) (t .stands))
+  answers w n e = let t = rw e at (told d o f) in rw (e, t .its-width) (each-width Answers-by one two four name (t .place) (t .stands))
 
-  unused : ValidDevice d → (w n : ℕ) → due d o f ≡ value w n
+  unused : ValidDevice d → (w n : ℕ) → due d o f ≡ value w n → w ≤ 4
       → drop 1 (served d o f .bytes) ≡ byte f 1 ∷ byte f 2 ∷ byte f 3 ∷ lowFirst w n ++ replicate (4 - w) 0
-  unused h w n e =
+  unused h w n e short =
       let t = rw e at (told d o f) in
-      rw e (ap (λ (l : List ℕ). byte f 1 ∷ byte f 2 ∷ byte f 3 ∷ l) (unused-by d o f asked w n t h))
+      rw e (ap (λ (l : List ℕ). byte f 1 ∷ byte f 2 ∷ byte f 3 ∷ l) (unused-by d o f asked w n t h short))
 
   values : (p n : ℕ) → reading f ≡ true → asked ≡ At p → shownAt d o p ≡ Number n → due d o f ≡ value (rowAt p .2) n
   unfolding due
@@ -230,6 +268,7 @@ module _ (d : Device) (o : Bool) (f : List ℕ) where
         repeated = repeated;
         answers = answers;
         unused = unused;
+        announced = λ n e. rw e;
         unused-confirming = λ k v e. rw e;
         aborts = λ c e. rw e;
         writes = λ k v. (writes-by d o f (due d o f) k v, λ e. rw e);

@@ -7,4 +7,5 @@ pub mod Told
 pub mod Signature
 pub mod Exactly
 pub mod Laws
+pub mod UploadLaws
 pub mod Worked

@@ -1,11 +1,11 @@
 -- What a value and a confirmation tell: which tests of 01's list failed before them.
 use Prim.Native.Nat.{ℕ, _^_, _<_}
 use native.Mathlib.Omega.{arith}
-use native.Mathlib.Nat.{mod-lt}
+use native.Mathlib.Nat.{mod-lt, lt-trans}
 use mathlib.Core.Path.{_≡_, refl, _∙_}
 use mathlib.Core.Bool.{Bool, true, false, not, _&&_, cond}
 use mathlib.Core.List.{List}
-use lib.Dec.{ltb}
+use lib.Dec.{ltb, lit<}
 use lib.ListN.{length}
 use borrow.Author.Tests.{ltb-false, not-false}
 use Rattle.cases.proofs.Cases.{by}
@@ -31,7 +31,12 @@ same m n a b = let p = ltb-false n m a in let q = ltb-false m n b in omega arith
 
 -- the bytes that are cut off fit the type
 cut-fits : (v p : ℕ) → p < length table → cutTo (rowAt p .2) v < 256 ^ (rowAt p .2)
-cut-fits v = each-width (λ w. cutTo w v < 256 ^ w) (mod-lt v (omega arith)) (mod-lt v (omega arith)) (mod-lt v (omega arith))
+cut-fits v =
+    each-width (λ w. cutTo w v < 256 ^ w)
+    (mod-lt v (omega arith))
+    (mod-lt v (omega arith))
+    (mod-lt v (omega arith))
+    (lt-trans (mod-lt v (omega arith)) (lit< tt))
 
 unaborted : (d : Device) (r : Row) (v : ℕ) → acceptsIn d r v ≡ true → barred d (key r) v ≡ false → abortCode d r v ≡ 0
 unfolding abortCode

@@ -1,13 +1,15 @@
 -- Proves 01's worked numbers from the definitions, by computation.
 use mathlib.Core.Path.{refl}
+use Rattle.names.specs.Segment.{segmentOf}
 use Rattle.entries.specs.Table.{entries, table, lookup}
 use Rattle.dictionary.specs.Reads.{shownAt}
 use Rattle.dictionary.specs.Writes.{written}
 use Rattle.sdo.specs.Service.{due}
+use Rattle.sdo.specs.Upload.{dueIn}
 use Rattle.sdo.specs.Worked.{Worked}
 
 pub worked : Worked
-unfolding entries table lookup shownAt written due
+unfolding entries table lookup segmentOf shownAt written due dueIn
 worked =
     record {
       p1 = refl;
@@ -37,4 +39,10 @@ worked =
       segmented = refl;
       value-first = refl;
       client-abort = refl;
+      name-read = (refl, refl);
+      name-segment = (refl, refl);
+      wrong-toggle = (refl, refl);
+      no-transfer = refl;
+      name-write = (refl, refl, refl);
+      name-sub-index = refl;
     }

@@ -13,6 +13,10 @@ abbrev pub requestCode : Request → ℕ
 requestCode UnknownCommand = 0x05040001
 requestCode (Asked ask) = 0
 
+-- in the place of step 1: 0503 0000h for a wrong toggle in a transfer
+abbrev pub wrongToggle : ℕ
+wrongToggle = 0x05030000
+
 -- 2. 0602 0000h no such index; 0609 0011h no such sub-index
 abbrev pub foundCode : Found → ℕ
 foundCode NoIndex = 0x06020000

@@ -1,6 +1,6 @@
 -- Laws for every request to every device: when each reply is due, what a value and a confirmation tell, the bytes of the
 -- reply, and what a request leaves unchanged. Bytes are given by place and number, as in 01, chapter "Service requests".
-use Prim.Native.Nat.{ℕ, _-_, _/_, _%_, _<_}
+use Prim.Native.Nat.{ℕ, _-_, _/_, _%_, _<_, _≤_}
 use lib.ListN.{length, getD, drop, replicate}
 use mathlib.Core.Path.{_≡_}
 use mathlib.Core.Logic.{_↔_, _⊎_}
@@ -20,7 +20,7 @@ use Rattle.sdo.specs.declared.reply.Effect.the-variants.{Write}
 use Rattle.sdo.specs.declared.reply.Served.{Served}
 use Rattle.sdo.specs.Request.{indexOf, subOf, dataOf, reading, writing, aborting}
 use Rattle.sdo.specs.Reply.{replies, carriedOut}
-use Rattle.sdo.specs.Service.{Due, none, value, confirmation, abort, answer, lengthOf, cutTo, due}
+use Rattle.sdo.specs.Service.{Due, none, value, confirmation, abort, upload, answer, lengthOf, cutTo, due}
 use Rattle.sdo.specs.Exactly.{ClientAborts, EntryStands, firstData, Exactly}
 use Rattle.sdo.specs.Taken.{Taken}
 
@@ -48,6 +48,7 @@ Told d o f x none = Unit {0}
 Told d o f x (value w n) = Valued d o f x w n
 Told d o f x (confirmation k v) = Confirmed d f x k v
 Told d o f x (abort code) = Unit {0}
+Told d o f x (upload bytes t) = Unit {0}
 
 -- What matters in a request: the top three bits, the index and the sub-index; in a write also bits 1 and 0, bits 3..2 if bit 0 is set,
 -- and as many data bytes as the entry has. Data past its length are ignored.
@@ -62,15 +63,17 @@ pub record Alike (f g : List ℕ) : Type 0 where
   pub contents : getD f 0 0 / 32 ≡ 1 → (p : ℕ) → EntryStands f p → firstData (width (rowAt p)) f ≡ firstData (width (rowAt p)) g
 
 -- Read answers 4Fh, 4Bh, 43h for 1, 2, 4 bytes: the top three bits 2, bit 4 clear, 4 less the length in bits 3..2, bits 1 and 0 set.
+-- A name, of up to 32 bytes, is answered 41h: bit 1 is clear, so that segments follow, and bit 0 says that the size is announced.
 pub record Answers (w b : ℕ) : Type 0 where
-  pub widths : (w ≡ 1) ⊎ ((w ≡ 2) ⊎ (w ≡ 4))
+  pub widths : (w ≡ 1) ⊎ ((w ≡ 2) ⊎ ((w ≡ 4) ⊎ (w ≡ 32)))
   pub top : b / 32 ≡ 2
   pub bit4 : b / 16 % 2 ≡ 0
   pub length : b / 4 % 4 ≡ 4 - w
-  pub low : b % 4 ≡ 3
+  pub low : w ≤ 4 → b % 4 ≡ 3
   pub one : w ≡ 1 → b ≡ 0x4F
   pub two : w ≡ 2 → b ≡ 0x4B
   pub four : w ≡ 4 → b ≡ 0x43
+  pub name : w ≡ 32 → b ≡ 0x41
 
 abbrev pub served : Device → Bool → List ℕ → Served
 served d o f = answer f (due d o f)
@@ -98,8 +101,10 @@ pub record Laws (d : Device) (o : Bool) (f : List ℕ) : Type 0 where
   -- Read answers 4Fh, 4Bh, 43h for 1, 2, 4 bytes;
   pub answers : (w n : ℕ) → due d o f ≡ value w n → Answers w (getD (served d o f .bytes) 0 0)
   -- unused bytes 0: of a value, and of a confirmation
-  pub unused : ValidDevice d → (w n : ℕ) → due d o f ≡ value w n
+  pub unused : ValidDevice d → (w n : ℕ) → due d o f ≡ value w n → w ≤ 4
       → drop 1 (served d o f .bytes) ≡ getD f 1 0 ∷ getD f 2 0 ∷ getD f 3 0 ∷ lowFirst w n ++ replicate (4 - w) 0
+  -- size in bytes 4..7, for every length
+  pub announced : (n : ℕ) → due d o f ≡ value 32 n → served d o f .bytes ≡ 0x41 ∷ getD f 1 0 ∷ getD f 2 0 ∷ getD f 3 0 ∷ lowFirst 4 n
   -- write 60h;
   pub unused-confirming : (k v : ℕ) → due d o f ≡ confirmation k v
       → served d o f .bytes ≡ 0x60 ∷ getD f 1 0 ∷ getD f 2 0 ∷ getD f 3 0 ∷ replicate 4 0

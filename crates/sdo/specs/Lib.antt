@@ -2,8 +2,10 @@ pub mod Request
 pub mod AbortCodes
 pub mod Reply
 pub mod Service
+pub mod Upload
 pub mod Steps
 pub mod Exactly
 pub mod Taken
+pub mod UploadLaws
 pub mod Laws
 pub mod Worked

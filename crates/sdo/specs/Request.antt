@@ -39,6 +39,13 @@ isAbort b = eqb (b / 32) 4
 abbrev pub aborting : List ℕ → Bool
 aborting f = isAbort (byte f 0)
 
+-- A segment request has top bits 3; bit 4 is the toggle. Its other bits and bytes 1..7 are ignored.
+abbrev pub isSegment : ℕ → Bool
+isSegment b = eqb (b / 32) 3
+
+abbrev pub toggleIn : ℕ → ℕ
+toggleIn b = b / 16 % 2
+
 abbrev pub reading : List ℕ → Bool
 reading f = eqb (top f) 2
 

@@ -4,6 +4,7 @@ use lib.Dec.{eqb, ltb}
 use mathlib.Core.Bool.{Bool, not, _&&_, cond}
 use mathlib.Core.List.{List, [], _∷_}
 use Rattle.cases.specs.Cases.{firstOf}
+use Rattle.names.specs.declared.Transfer.{Transfer}
 use Rattle.entries.specs.declared.Device.{Device}
 use Rattle.entries.specs.declared.table.Row.{Row}
 use Rattle.entries.specs.declared.table.Found.{Found}
@@ -18,14 +19,16 @@ use Rattle.sdo.specs.AbortCodes.{requestCode, foundCode, readOnly, tooLo
 use Rattle.sdo.specs.declared.request.Request.the-variants.{UnknownCommand}
 use Rattle.sdo.specs.declared.reply.Served.{Served}
 use Rattle.sdo.specs.Request.{byte, indexOf, subOf, dataOf, aborting, reading, writing}
-use Rattle.sdo.specs.Reply.{noReply, answered, confirmed, aborted}
+use Rattle.sdo.specs.Reply.{noReply, answered, confirmed, aborted, segmented}
 
--- What is due: nothing, the value of an entry and its number of bytes, the confirmation that an entry got a value, or an abort code.
+-- What is due: nothing, the value of an entry and its number of bytes, the confirmation that an entry got a value, an abort code,
+-- or, to a segment request while a name is read, a reply's bytes and the transfer that it leaves.
 pub data Due : Type 0 where
   none : Due
   value : ℕ → ℕ → Due
   confirmation : ℕ → ℕ → Due
   abort : ℕ → Due
+  upload : List ℕ → Transfer → Due
 
 -- The reply that joins, and what the request does.
 abbrev pub answer : List ℕ → Due → Served
@@ -33,6 +36,7 @@ answer f none = noReply
 answer f (value width n) = answered f width n
 answer f (confirmation k v) = confirmed f k v
 answer f (abort code) = aborted f code
+answer f (upload bytes t) = segmented bytes t
 
 abbrev pub isAbsent : Found → Bool
 isAbsent x = not (eqb (foundCode x) 0)

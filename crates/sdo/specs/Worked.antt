@@ -1,12 +1,15 @@
--- Requests and replies of 01's chapter "Worked numbers": node 1, Pre-operational, factory settings.
+-- Requests and replies of 01's chapter "Worked numbers": node 1, Pre-operational, factory settings; its names are HEAD, 1 and 1.
 use Prim.Native.Nat.{ℕ}
 use mathlib.Core.Path.{_≡_}
 use mathlib.Core.Bool.{false}
 use mathlib.Core.List.{List, [], _∷_}
+use Rattle.names.specs.declared.Transfer.{Transfer}
+use Rattle.names.specs.Transfer.{noTransfer}
 use Rattle.entries.specs.declared.Device.{Device}
 use Rattle.dictionary.specs.Worked.{fresh, at, movedTo}
 use Rattle.sdo.specs.Reply.{carriedOut}
 use Rattle.sdo.specs.Service.{answer, due}
+use Rattle.sdo.specs.Upload.{dueIn}
 
 abbrev pub bytes : ℕ → ℕ → ℕ → ℕ → ℕ → ℕ → ℕ → ℕ → List ℕ
 bytes a b c d e f g h = a ∷ b ∷ c ∷ d ∷ e ∷ f ∷ g ∷ h ∷ []
@@ -31,6 +34,17 @@ coarse r = after (after (at r) (bytes 0x2B 0x00 0x60 0x00 0x04 0x00 0 0)) (bytes
 -- 6003h = 40
 abbrev pub preset : ℕ → Device
 preset r = after (at r) (bytes 0x23 0x03 0x60 0x00 0x28 0 0 0)
+
+-- in the transfer of a name
+abbrev pub replyIn : Transfer → List ℕ → List ℕ
+replyIn t f = answer f (dueIn fresh false t f) .bytes
+
+abbrev pub transferAfter : Transfer → List ℕ → Transfer
+transferAfter t f = answer f (dueIn fresh false t f) .transfer
+
+-- the transfer of 1008h, no segment answered
+abbrev pub started : Transfer
+started = record { name = 1; segments = 0 }
 
 pub record Worked : Type 0 where
   pub p1 : reply fresh (bytes 0x40 0x01 0x65 0x00 0 0 0 0) ≡ bytes 0x43 0x01 0x65 0x00 0x88 0x13 0x00 0x00
@@ -94,3 +108,19 @@ pub record Worked : Type 0 where
   pub value-first : reply fresh (bytes 0x23 0x03 0x60 0x00 0x00 0x00 0x10 0x00) ≡ bytes 0x80 0x03 0x60 0x00 0x30 0x00 0x09 0x06
   -- the client's abort: no effect
   pub client-abort : after (at 100) (bytes 0x80 0x03 0x60 0x00 0x28 0 0 0) ≡ at 100
+  -- 1008h is HEAD: a read announces 4 bytes and starts the transfer, and one segment carries them and ends it
+  pub name-read : (replyIn noTransfer (bytes 0x40 0x08 0x10 0x00 0 0 0 0) ≡ bytes 0x41 0x08 0x10 0x00 0x04 0x00 0x00 0x00)
+      × (transferAfter noTransfer (bytes 0x40 0x08 0x10 0x00 0 0 0 0) ≡ started)
+  pub name-segment : (replyIn started (bytes 0x60 0 0 0 0 0 0 0) ≡ bytes 0x07 0x48 0x45 0x41 0x44 0x00 0x00 0x00)
+      × (transferAfter started (bytes 0x60 0 0 0 0 0 0 0) ≡ noTransfer)
+  -- a wrong toggle names the entry of the transfer, and ends it
+  pub wrong-toggle : (replyIn started (bytes 0x70 0 0 0 0 0 0 0) ≡ bytes 0x80 0x08 0x10 0x00 0x00 0x00 0x03 0x05)
+      × (transferAfter started (bytes 0x70 0 0 0 0 0 0 0) ≡ noTransfer)
+  -- with no transfer, a segment request is an unknown command, with its own bytes 1..3
+  pub no-transfer : replyIn noTransfer (bytes 0x60 0x01 0x02 0x03 0 0 0 0) ≡ bytes 0x80 0x01 0x02 0x03 0x01 0x00 0x04 0x05
+  -- a write to a name: of four bytes, which is a wrong length too; with no length said; and in a transfer
+  pub name-write : (reply fresh (bytes 0x23 0x08 0x10 0x00 0x48 0x45 0x41 0x44) ≡ bytes 0x80 0x08 0x10 0x00 0x02 0x00 0x01 0x06)
+      × (reply fresh (bytes 0x22 0x08 0x10 0x00 0x48 0x45 0x41 0x44) ≡ bytes 0x80 0x08 0x10 0x00 0x02 0x00 0x01 0x06)
+      × (replyIn started (bytes 0x2F 0x08 0x10 0x00 0x48 0 0 0) ≡ bytes 0x80 0x08 0x10 0x00 0x02 0x00 0x01 0x06)
+  -- a name has sub-index 0 only
+  pub name-sub-index : reply fresh (bytes 0x40 0x08 0x10 0x01 0 0 0 0) ≡ bytes 0x80 0x08 0x10 0x01 0x11 0x00 0x09 0x06

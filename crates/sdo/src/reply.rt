@@ -1,5 +1,6 @@
 //! The types of a reply and of what a request does.
 use can::Bytes;
+use names::Transfer;
 
 // What a request does: nothing at all, its reply waits, or its reply waits and an entry, named by its key, gets a value.
 pub enum Effect {
@@ -8,8 +9,9 @@ pub enum Effect {
     Write { key: u32, value: u32 },
 }
 
-// The bytes are 0 if there is no reply.
+// The bytes are 0 if there is no reply. `transfer` is the one that runs after the request.
 pub struct Served {
     pub bytes: Bytes,
     pub effect: Effect,
+    pub transfer: Transfer,
 }

@@ -15,8 +15,11 @@ use Rattle.entries.specs.Keys.{errorCountKey, saveKey, loadKey, emergencyKey, i
 use Rattle.entries.specs.Keys.{tpdo1, tpdo2, identifierKeyOf, typeKeyOf, eventKeyOf, operatingKey, rangeKey, presetKey, stepKey, cycleKey}
 use Rattle.dictionary.specs.Accepted.{on}
 use Rattle.dictionary.specs.Writes.{communicationAfter, profileAfter, written}
-use Rattle.sdo.specs.declared.reply.Effect.the-variants.{Reply, Write}
+use Rattle.sdo.specs.declared.reply.Effect.the-variants.{Write}
 use Rattle.sdo.specs.declared.reply.Served.{Served}
+use Rattle.sdo.specs.Reply.{segmented}
+use Rattle.names.specs.declared.Transfer.{Transfer}
+use Rattle.names.specs.Transfer.{noTransfer}
 use Rattle.waiting.specs.Line as line
 use Rattle.waiting.specs.Line.{places, first}
 use Rattle.waiting.specs.Places.{joinIn, Holds}
@@ -40,7 +43,7 @@ not-switched : (p : Pdo) → (not (on (p .identifier)) && on (p .identifier)) �
 not-switched p = test (on (p .identifier)) (λ e. rw e) (λ e. rw e)
 
 abbrev writing : List ℕ → ℕ → ℕ → Served
-writing b k v = record { bytes = b; effect = Write k v }
+writing b k v = record { bytes = b; effect = Write k v; transfer = noTransfer }
 
 module _ (h : Head) (v : Valid h) (live : isLive (h .core) ≡ true) (b : List ℕ) where
   abbrev c : Core
@@ -51,28 +54,27 @@ module _ (h : Head) (v : Valid h) (live : isLive (h .core) ≡ true) (b : List �
       → joinIn (h .line) line.sdoReply ≡ joinsIn (withdrawsIn (h .line) (goes c d)) (comes requestMoments d)
   reply-joins d none alert l = rw (none, alert, l) (sym (alerts-already h v (line.sdoReply ∷ [])))
 
-  pub replies :
-      let r = repliedBy (h .line) b in
-      withLine (withReply h (r .reply)) (r .line) ≡ act false h (serve (record { bytes = b; effect = Reply }))
+  pub replies : (t : Transfer)
+      → let r = repliedBy (h .line) b in withLine (withReply h (r .reply)) (r .line) ≡ act false h (serve (segmented b t))
   unfolding act settledTo
-  replies =
-      let d = serving c (record { bytes = b; effect = Reply }) in
-      ap {B = Head} (λ l. record { core = d; line = l }) (reply-joins d (simp and-not-self) refl live)
+  replies t =
+      let d = serving c (segmented b t) in
+      ap {B = Head} (λ l. record { core = d; transfer = h .transfer; line = l }) (reply-joins d (simp and-not-self) refl live)
 
   abbrev after : Device → Timers → Core
   after d t = record { device = d; nmt = c .nmt; announced = c .announced; timers = t; reply = b }
 
   abbrev settled : Core → Head
-  settled d = record { core = d; line = joinsIn (withdrawsIn (h .line) (goes c d)) (comes requestMoments d) }
+  settled d = record { core = d; transfer = h .transfer; line = joinsIn (withdrawsIn (h .line) (goes c d)) (comes requestMoments d) }
 
   -- a write that alters neither the communication settings nor the timers
   alters-else : (k x : ℕ) (d : Device) → written (c .device) k x ≡ d → d .settings .communication ≡ communication c
       → d .reading ≡ c .device .reading → timersWritten k (communication c) (communication c) (c .timers) ≡ c .timers
-      → record { core = after d (c .timers); line = joinIn (h .line) line.sdoReply } ≡ act false h (serve (writing b k x))
+      → record { core = after d (c .timers); transfer = h .transfer; line = joinIn (h .line) line.sdoReply } ≡ act false h (serve (writing b k x))
   unfolding act settledTo
   alters-else k x d w s r t =
       let reply = reply-joins (after d (c .timers)) (rw (s, r) (simp and-not-self)) (rw (s, r)) live in
-      ap {B = Head} (λ l. record { core = after d (c .timers); line = l }) reply
+      ap {B = Head} (λ l. record { core = after d (c .timers); transfer = h .transfer; line = l }) reply
       ∙ ap (λ u. settled (after d u)) (sym t)
       ∙ ap (λ q. settled (after d (timersWritten k (communication c) q (c .timers)))) (sym s)
       ∙ ap (λ e. settled (after e (timersWritten k (communication c) (e .settings .communication) (c .timers)))) (sym w)
@@ -211,5 +213,5 @@ module _ (h : Head) (v : Valid h) (live : isLive (h .core) ≡ true) (b : List �
           ≡ act false h (serve (writing b k x))
       unfolding act settledTo
       configures =
-          ap {B = Head} (λ l. record { core = d; line = l }) line-so
+          ap {B = Head} (λ l. record { core = d; transfer = h .transfer; line = l }) line-so
           ∙ ap (λ e. settled (after e (timersWritten k (communication c) (e .settings .communication) (c .timers)))) (sym configured-so)

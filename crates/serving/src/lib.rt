@@ -1,4 +1,4 @@
-//! The expedited SDO server: from a request's eight bytes to the reply's, and to what the write does. 01, "Service requests".
+//! The SDO server: from a request's eight bytes to the reply's, to what the write does, and to the transfer of a name. 01, "Service requests".
 ghost use mathlib.Core.Path.{_≡_};
 ghost use Prim.Native.Nat.{_<_};
 ghost use lib.ListN.{length};
@@ -6,14 +6,17 @@ ghost use Rattle.entries.specs.Table.{table};
 ghost use Rattle.position.specs.Profile.{ValidProfile};
 ghost use Rattle.sdo.specs.Steps.{entryReply, replyTo};
 ghost use Rattle.sdo.specs.Service.{answer, due};
+ghost use Rattle.sdo.specs.Upload.{dueIn};
 use can::Bytes;
 use entries::Device;
 use entries::table::Found;
+use names::Transfer;
 use sdo::reply::Served;
 use sdo::request::Access;
 use sdo::request::Request;
 
 mod download;
+mod upload;
 
 const UNKNOWN_COMMAND: u32 = 0x0504_0001;
 
@@ -21,8 +24,20 @@ const NO_SUCH_INDEX: u32 = 0x0602_0000;
 
 const NO_SUCH_SUB_INDEX: u32 = 0x0609_0011;
 
-// The reply due to a request, and what the request does; a client's abort gets no reply and does nothing.
-pub fn serve(device: Device, operational: bool, bytes: Bytes) -> Served
+// The reply due to a request, what the request does, and the transfer that it leaves.
+pub fn serve(device: Device, operational: bool, transfer: Transfer, bytes: Bytes) -> Served
+    requires { ⌜ ValidProfile (device .settings .profile) ⌝ }
+    ensures { λ r. ⌜ r ≡ answer bytes (dueIn device operational transfer bytes) ⌝ }
+{
+    let command = bytes[0];
+    if names::runs(transfer) & requests::is_segment(command) {
+        return upload::segment(device.identity, transfer, command);
+    }
+    first(device, operational, bytes)
+}
+
+// Every other request ends the transfer; a read of a name starts one. A client's abort gets no reply.
+fn first(device: Device, operational: bool, bytes: Bytes) -> Served
     requires { ⌜ ValidProfile (device .settings .profile) ⌝ }
     ensures { λ r. ⌜ r ≡ answer bytes (due device operational bytes) ⌝ }
 {

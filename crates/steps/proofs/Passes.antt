@@ -12,5 +12,5 @@ laws h f v =
     record {
       unchanged = λ e. sym (ap (λ (a : Answer). a .head) (goes h v f 0 e .0));
       refusal = refusal-so (means h f);
-      refused = λ n. rw (ne-eqb (refusalOf f) 0 n);
+      refused = λ n. let e = ne-eqb (refusalOf f) 0 n in (rw e, rw e);
     }

@@ -26,9 +26,10 @@ use Rattle.promises.specs.States.{one, two, isInitialising, node, communication
 use Rattle.promises.specs.WaitingLine.{Kind, emergency, sdoReply, heartbeat, tpdo, number, isAlerting, mayStay, frame}
 use Rattle.promises.specs.Acts.{Act, boot, idle, send, acted, announcing, booted, momentsOf}
 use Rattle.promises.specs.Acts.{emergencyOnly, goes, comes, settledTo, act, frameBy}
-use Rattle.promises.specs.Calls.{slot, sentBy, isFrame, frameIn, sentWith, step}
+use Rattle.promises.specs.Calls.{slot, sentBy, isFrame, frameIn, sentWith}
 use Rattle.promises.specs.Valid.{Valid}
 use Rattle.promises.specs.Promised.{Slots}
+use Rattle.promises.proofs.Nothing.{act-step}
 use Rattle.promises.proofs.KindNumbers.{first-of, sent-as}
 use Rattle.promises.proofs.Slots.{no-stay, none-waits, sent-by}
 use Rattle.promises.proofs.Valid.{valid-step}
@@ -159,8 +160,8 @@ module _ (h : Head) (v : Valid h) where
   sent r = record { waited = z .outgoing .waited; frame = z .outgoing .frame; head = r }
 
   -- a head that is what a slot makes of a valid one
-  leaves : {r : Head} → r ≡ step h slot → Slots h (sent r)
-  leaves {r} e = (
+  leaves : {r : Head} → r ≡ act true h (sentBy c k) → Slots h (sent r)
+  leaves {r} x = let e = x ∙ act-step h slot refl in (
     ap₂ {C = Sent} (λ w f. record { waited = w; frame = f; head = r }) waited frame-sent ∙ ap (sentWith (frameBy c (sentBy c k))) e,
     subst Valid (sym e) (valid-step h slot v),
   )

@@ -17,10 +17,10 @@ use Rattle.promises.specs.States.{operational, isIn, isInitialising, communicat
 use Rattle.promises.specs.WaitingLine.{Kind, emergency, sdoReply, heartbeat, tpdo, kinds, number, thoseOf, those, mayJoin}
 use Rattle.promises.specs.Timers.{ifRunning, timersTicked}
 use Rattle.promises.specs.Acts.{time, acted, timeMoments, goes, comes, settledTo, act}
-use Rattle.promises.specs.Calls.{tick, timed, step}
+use Rattle.promises.specs.Calls.{tick, timed, meant, step}
 use Rattle.promises.specs.Valid.{Valid}
 use Rattle.promises.specs.Promised.{Ticks}
-use Rattle.promises.proofs.Nothing.{act-nothing}
+use Rattle.promises.proofs.Nothing.{act-nothing, act-step}
 use Rattle.promises.proofs.Valid.{valid-step}
 use Rattle.settling.specs.Joined.{mayJoinAt, joinedBy}
 use Rattle.steps.specs.declared.tick.Ticked.{Ticked}
@@ -84,7 +84,7 @@ module _ (h : Head) (v : Valid h) where
       (clock-runs o (communication c .pdo1) (c .timers .pdo1))
       (clock-runs o (communication c .pdo2) (c .timers .pdo2))
 
-  joins : isInitialising c ≡ false → settled counted ≡ step h tick
+  joins : isInitialising c ≡ false → settled counted ≡ act false h (meant h tick)
   unfolding act settledTo
   joins runs =
       let m : timed c ≡ time = rw runs in
@@ -123,8 +123,8 @@ module _ (h : Head) (v : Valid h) where
       none (tpdo two) = rw (n .2)
 
   -- a head that is what a tick makes of a valid one
-  leaves : {r : Head} → r ≡ step h tick → Ticks h r
-  leaves e = (e, subst Valid (sym e) (valid-step h tick v))
+  leaves : {r : Head} → r ≡ act false h (meant h tick) → Ticks h r
+  leaves x = let e = x ∙ act-step h tick refl in (e, subst Valid (sym e) (valid-step h tick v))
 
   abbrev z : Ticked
   z = tickedOf (c .nmt) (communication c) (c .timers) (good c) (c .announced)

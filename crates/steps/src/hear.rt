@@ -1,7 +1,7 @@
 //! Tells a received frame apart: refused, without effect, a SYNC, a command, or a request.
 ghost use mathlib.Core.Path.{_≡_};
 ghost use Rattle.position.specs.Profile.{ValidProfile};
-ghost use Rattle.steps.specs.Hear.{passingBy, syncWay, orderWay, orderedBy, writeWay, replyingBy, servedBy, requestedBy, heardBy};
+ghost use Rattle.steps.specs.Hear.{passingBy, syncWay, keptBy, orderWay, orderedBy, writeWay, replyingBy, servedBy, requestedBy, heardBy};
 use can::Bytes;
 use can::Received;
 use entries::Device;
@@ -10,6 +10,7 @@ use entries::table::ERROR_COUNT;
 use entries::table::LOAD;
 use entries::table::OPERATING;
 use entries::table::SAVE;
+use names::Transfer;
 use nmt::Order;
 use parts::Nmt;
 use sdo::reply::Effect;
@@ -40,10 +41,11 @@ const SYNC: u32 = 0x080;
 
 const MOST_SYNC_LENGTH: u8 = 1;
 
-// What a frame means: the refusal number, the way, and what the way needs: the state to enter, whether all settings are reset,
-// the reply that waits, the entry that is written and its value.
+// What a frame means: the refusal number, the transfer that it leaves, the way, and what the way needs: the state to enter, whether all
+// settings are reset, the reply that waits, the entry that is written and its value.
 pub struct Heard {
     pub refusal: u8,
+    pub transfer: Transfer,
     pub way: u8,
     pub state: Nmt,
     pub all: bool,
@@ -52,34 +54,35 @@ pub struct Heard {
     pub value: u32,
 }
 
-pub fn hear(state: Nmt, device: Device, line: Line, frame: Received) -> Heard
+pub fn hear(state: Nmt, device: Device, transfer: Transfer, line: Line, frame: Received) -> Heard
     requires { ⌜ ValidProfile (device .settings .profile) ⌝ }
-    ensures { λ r. ⌜ r ≡ heardBy state device line frame ⌝ }
+    ensures { λ r. ⌜ r ≡ heardBy state device transfer line frame ⌝ }
 {
     let refusal = can::refusal(frame);
     if refusal != can::NO_REFUSAL {
-        return passing(refusal, crate::NONE);
+        return passing(refusal, crate::NONE, transfer);
     }
     if frame.extended | frame.remote | states::is_initialising(state) {
-        return passing(refusal, crate::NONE);
+        return passing(refusal, crate::NONE, transfer);
     }
     if frame.identifier == COMMAND {
-        return ordered(nmt::ordered(state, device.node, frame));
+        return ordered(nmt::ordered(state, device.node, frame), transfer);
     }
     if frame.identifier == SYNC {
-        return passing(refusal, sync_way(state, frame.length));
+        return passing(refusal, sync_way(state, frame.length), transfer);
     }
     if frame.identifier == Server::FIRST.request + device.node as u32 {
-        return requested(state, device, line, frame);
+        return requested(state, device, transfer, line, frame);
     }
-    passing(refusal, crate::NONE)
+    passing(refusal, crate::NONE, transfer)
 }
 
-fn passing(refusal: u8, way: u8) -> Heard
-    ensures { λ r. ⌜ r ≡ passingBy refusal way ⌝ }
+fn passing(refusal: u8, way: u8, transfer: Transfer) -> Heard
+    ensures { λ r. ⌜ r ≡ passingBy refusal way transfer ⌝ }
 {
     Heard {
         refusal,
+        transfer,
         way,
         state: Nmt::INITIALISING,
         all: false,
@@ -98,14 +101,24 @@ fn sync_way(state: Nmt, length: u8) -> u8
     crate::NONE
 }
 
-fn ordered(order: Order) -> Heard
-    ensures { λ r. ⌜ r ≡ orderedBy order ⌝ }
+fn ordered(order: Order, transfer: Transfer) -> Heard
+    ensures { λ r. ⌜ r ≡ orderedBy order transfer ⌝ }
 {
-    let mut heard = passing(can::NO_REFUSAL, order_way(order));
+    let mut heard = passing(can::NO_REFUSAL, order_way(order), kept(order, transfer));
     let state = order.state;
     heard.state = state;
     heard.all = order.all;
     heard
+}
+
+// A reset and entering Stopped end a transfer.
+fn kept(order: Order, transfer: Transfer) -> Transfer
+    ensures { λ r. ⌜ r ≡ keptBy order transfer ⌝ }
+{
+    if order.resets | (order.enters & states::same(order.state, Nmt::STOPPED)) {
+        return Transfer::NONE;
+    }
+    transfer
 }
 
 fn order_way(order: Order) -> u8
@@ -120,9 +133,9 @@ fn order_way(order: Order) -> u8
     crate::NONE
 }
 
-fn requested(state: Nmt, device: Device, line: Line, frame: Received) -> Heard
+fn requested(state: Nmt, device: Device, transfer: Transfer, line: Line, frame: Received) -> Heard
     requires { ⌜ ValidProfile (device .settings .profile) ⌝ }
-    ensures { λ r. ⌜ r ≡ requestedBy state device line frame ⌝ }
+    ensures { λ r. ⌜ r ≡ requestedBy state device transfer line frame ⌝ }
 {
     if server::serves(
         state,
@@ -130,9 +143,9 @@ fn requested(state: Nmt, device: Device, line: Line, frame: Received) -> Heard
         waiting::waits(line, Server::FIRST.kind),
     ) {
         let bytes = frame.bytes;
-        return served(serving::serve(device, states::is_operational(state), bytes));
+        return served(serving::serve(device, states::is_operational(state), transfer, bytes));
     }
-    passing(can::NO_REFUSAL, crate::NONE)
+    passing(can::NO_REFUSAL, crate::NONE, transfer)
 }
 
 fn served(served: Served) -> Heard
@@ -140,17 +153,18 @@ fn served(served: Served) -> Heard
 {
     let bytes = served.bytes;
     let effect = served.effect;
+    let transfer = served.transfer;
     match effect {
-        Effect::Nothing => passing(can::NO_REFUSAL, crate::NONE),
-        Effect::Reply => replying(REPLIES, bytes, 0, 0),
-        Effect::Write { key, value } => replying(write_way(key), bytes, key, value),
+        Effect::Nothing => passing(can::NO_REFUSAL, crate::NONE, transfer),
+        Effect::Reply => replying(REPLIES, transfer, bytes, 0, 0),
+        Effect::Write { key, value } => replying(write_way(key), transfer, bytes, key, value),
     }
 }
 
-fn replying(way: u8, reply: Bytes, key: u32, value: u32) -> Heard
-    ensures { λ r. ⌜ r ≡ replyingBy way reply key value ⌝ }
+fn replying(way: u8, transfer: Transfer, reply: Bytes, key: u32, value: u32) -> Heard
+    ensures { λ r. ⌜ r ≡ replyingBy way transfer reply key value ⌝ }
 {
-    let mut heard = passing(can::NO_REFUSAL, way);
+    let mut heard = passing(can::NO_REFUSAL, way, transfer);
     heard.reply = reply;
     heard.key = key;
     heard.value = value;

@@ -68,4 +68,4 @@ module _ (h : Head) (v : Valid h) where
       let z = syncedBy (c .nmt) (communication c) (c .timers) (good c) (h .line) in
       withLine (withTimers h (z .timers)) (z .line) ≡ act false h sync
   unfolding act settledTo
-  syncs = ap {B = Head} (λ l. record { line = l; core = after }) (sym line-so)
+  syncs = ap {B = Head} (λ l. record { line = l; transfer = h .transfer; core = after }) (sym line-so)

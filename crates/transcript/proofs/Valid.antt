@@ -2,6 +2,7 @@
 use Prim.Native.Nat.{ℕ}
 use mathlib.Core.List.{List}
 use native.Mathlib.Omega.{arith}
+use Rattle.dictionary.proofs.Worked.{named1}
 use Rattle.parts.specs.declared.Head.{Head}
 use Rattle.promises.specs.Valid.{Valid}
 use Rattle.promises.proofs.Valid.{valid-step, valid-started}
@@ -26,5 +27,4 @@ valid-after = after-kept Valid valid-step
 
 pub valid-start : Valid (started .head)
 valid-start =
-    valid-started 1 _ (omega arith) (omega arith)
-    (record { vendor = omega arith; product = omega arith; revision = omega arith; serial = omega arith })
+    valid-started 1 _ (omega arith) (omega arith) named1

@@ -1,13 +1,14 @@
 -- What each line asks of the head and what it prints, from the line's bytes (`text`, specs/Forms.antt)
 -- and the calls (`promises`, specs/Calls.antt): 01, chapter "Worked numbers", "Session program". `Deeds`
 -- states this for `reply`, `talk` and `transcript`, and states which head a session starts with.
-use Prim.Native.Nat.{ℕ, _≤_, _<_}
+use Prim.Native.Nat.{ℕ, _-_, _≤_, _<_}
 use mathlib.Core.Path.{_≡_}
 use mathlib.Core.Bool.{false}
 use mathlib.Core.List.{List, [], _∷_, _++_}
 use lib.ListN.{length, replicate}
 use Rattle.can.specs.declared.Frame.{Frame as Data}
 use Rattle.can.specs.declared.Received.{Received}
+use Rattle.names.specs.declared.Name.{Name}
 use Rattle.parts.specs.declared.Head.{Head}
 use Rattle.parts.specs.declared.Sensor.the-variants.{Missing as missing, Raw}
 use Rattle.promises.specs.Calls.{Call, receive, tick, sample, slot, poweredUp}
@@ -30,9 +31,22 @@ pub record Does (h : Head) (l : List ℕ) (calls : List Call) (text : List ℕ) 
 abbrev pub data11 : ℕ → ℕ → List ℕ → Received
 data11 id len bytes = record { identifier = id; extended = false; remote = false; length = len; bytes = filled bytes }
 
--- node 1, identity 1, 2, 3, 4
+-- a name in its array of 32 bytes
+abbrev pub calledBy : List ℕ → Name
+calledBy text = record { bytes = text ++ replicate (32 - length text) 0; length = length text }
+
+-- node 1, identity 1, 2, 3, 4; the names are HEAD, 1 and 1
 abbrev pub first : Head
-first = poweredUp 1 (record { vendor = 1; product = 2; revision = 3; serial = 4 }) .head
+first =
+    poweredUp 1 (record {
+      vendor = 1;
+      product = 2;
+      revision = 3;
+      serial = 4;
+      name = calledBy (ascii "HEAD");
+      hardware = calledBy (ascii "1");
+      software = calledBy (ascii "1");
+    }) .head
 
 -- the head of a session: power-up, and calls
 pub record Called (h : Head) : Type 0 where
@@ -68,7 +82,7 @@ pub record Deeds : Type 0 where
   pub in-turn : (h : Head) (l : List ℕ) (ls : List (List ℕ)) (calls : List Call) (text : List ℕ) → Does h l calls text
       → talk h (l ∷ ls) ≡ text ++ talk (after h calls) ls
   pub nothing : (h : Head) → talk h [] ≡ []
-  -- node 1, identity 1, 2, 3, 4, standard input to output
+  -- node 1, identity 1, 2, 3, 4, names HEAD, 1 and 1, standard input to output
   pub begins : (input : List ℕ) → transcript input ≡ talk first (lines input)
   -- and so do the calls that take the input byte by byte: the head always comes from power-up and calls
   pub begins-bytes : started .head ≡ first

@@ -17,6 +17,6 @@ abbrev pub talk : Head → List (List ℕ) → List ℕ
 talk h [] = []
 talk h (l ∷ ls) = reply h l .text ++ talk (reply h l .head) ls
 
--- node 1, identity 1, 2, 3, 4, standard input to output
+-- node 1, identity 1, 2, 3, 4, names HEAD, 1 and 1, standard input to output
 abbrev pub transcript : List ℕ → List ℕ
 transcript input = talk node1 (lines input)

@@ -24,6 +24,16 @@ pub record Worked : Type 0 where
       )
       ≡ ascii "701 1 00\n081 8 00 50 01 00 00 00 00 00\n581 8 43 18 10 01 01 00 00 00\n581 8 43 18 10 02 02 00 00 00\n"
       ++ ascii "581 8 43 18 10 03 03 00 00 00\n581 8 43 18 10 04 04 00 00 00\n"
+  -- The session program's names are HEAD, 1 and 1: 1008h, 1009h and 100Ah, each by its first request and one segment.
+  pub names :
+      transcript (
+      ascii "?\n?\nF 601 8 40 08 10 00 00 00 00 00\n?\nF 601 8 60 00 00 00 00 00 00 00\n?\n"
+      ++ ascii "F 601 8 40 09 10 00 00 00 00 00\n?\nF 601 8 60 00 00 00 00 00 00 00\n?\n"
+      ++ ascii "F 601 8 40 0A 10 00 00 00 00 00\n?\nF 601 8 60 00 00 00 00 00 00 00\n?\n"
+      )
+      ≡ ascii "701 1 00\n081 8 00 50 01 00 00 00 00 00\n581 8 41 08 10 00 04 00 00 00\n581 8 07 48 45 41 44 00 00 00\n"
+      ++ ascii "581 8 41 09 10 00 01 00 00 00\n581 8 0D 31 00 00 00 00 00 00\n"
+      ++ ascii "581 8 41 0A 10 00 01 00 00 00\n581 8 0D 31 00 00 00 00 00 00\n"
   -- each refusal that a line can get, and a last line that ends with the input
   pub refusals :
       transcript (ascii "F 800 9 00 00 00 00 00 00 00 00\nF 601 9 00 00 00 00 00 00 00 00\nS 4294967296\nS 1048576\n\nT 0\nT 1\n?")

@@ -42,64 +42,67 @@ pub fn read(device: Device, operational: bool, place: usize) -> Shown
         5 => error_shown(3, device.errors),
         6 => error_shown(4, device.errors),
         7 => Shown::Number(SYNC_IDENTIFIER),
-        8 => Shown::Number(1),
-        9 => Shown::Number(1),
-        10 => Shown::Number(1),
+        8 => Shown::Number(identity.name.length as u32),
+        9 => Shown::Number(identity.hardware.length as u32),
+        10 => Shown::Number(identity.software.length as u32),
         11 => Shown::Number(1),
-        12 => Shown::Number(communication.emergency),
-        13 => Shown::Number(communication.inhibit),
-        14 => Shown::Number(communication.heartbeat),
-        15 => Shown::Number(4),
-        16 => Shown::Number(identity.vendor),
-        17 => Shown::Number(identity.product),
-        18 => Shown::Number(identity.revision),
-        19 => Shown::Number(identity.serial),
+        12 => Shown::Number(1),
+        13 => Shown::Number(1),
+        14 => Shown::Number(1),
+        15 => Shown::Number(communication.emergency),
+        16 => Shown::Number(communication.inhibit),
+        17 => Shown::Number(communication.heartbeat),
+        18 => Shown::Number(4),
+        19 => Shown::Number(identity.vendor),
+        20 => Shown::Number(identity.product),
+        21 => Shown::Number(identity.revision),
+        22 => Shown::Number(identity.serial),
         _ => read_pdo(device, operational, place),
     }
 }
 
 // The entries 1800h to 1A01h.
 fn read_pdo(device: Device, operational: bool, place: usize) -> Shown
-    requires { ⌜ (20 ≤ place) × (place < length table) × (ValidProfile (device .settings .profile)) ⌝ }
+    requires { ⌜ (23 ≤ place) × (place < length table) × (ValidProfile (device .settings .profile)) ⌝ }
     ensures { λ r. ⌜ r ≡ shownAt device operational place ⌝ }
 {
     let communication = device.settings.communication;
     match place {
-        20 => Shown::Number(5),
-        21 => Shown::Number(communication.pdo1.identifier),
-        22 => Shown::Number(communication.pdo1.transmission),
-        23 => Shown::Number(communication.pdo1.event),
-        24 => Shown::Number(5),
-        25 => Shown::Number(communication.pdo2.identifier),
-        26 => Shown::Number(communication.pdo2.transmission),
-        27 => Shown::Number(communication.pdo2.event),
-        28 => Shown::Number(1),
-        29 => Shown::Number(MAPPED_POSITION),
-        30 => Shown::Number(1),
-        31 => Shown::Number(MAPPED_POSITION),
+        23 => Shown::Number(5),
+        24 => Shown::Number(communication.pdo1.identifier),
+        25 => Shown::Number(communication.pdo1.transmission),
+        26 => Shown::Number(communication.pdo1.event),
+        27 => Shown::Number(5),
+        28 => Shown::Number(communication.pdo2.identifier),
+        29 => Shown::Number(communication.pdo2.transmission),
+        30 => Shown::Number(communication.pdo2.event),
+        31 => Shown::Number(1),
+        32 => Shown::Number(MAPPED_POSITION),
+        33 => Shown::Number(1),
+        34 => Shown::Number(MAPPED_POSITION),
         _ => read_profile(device, operational, place),
     }
 }
 
 // The entries 6000h to 6509h.
 fn read_profile(device: Device, operational: bool, place: usize) -> Shown
-    requires { ⌜ (32 ≤ place) × (place < length table) × (ValidProfile (device .settings .profile)) ⌝ }
+    requires { ⌜ (35 ≤ place) × (place < length table) × (ValidProfile (device .settings .profile)) ⌝ }
     ensures { λ r. ⌜ r ≡ shownAt device operational place ⌝ }
 {
     let profile = device.settings.profile;
     let reading = device.reading;
     match place {
-        32 => Shown::Number(profile.operating),
-        33 => Shown::Number(profile.range),
-        34 => Shown::Number(profile.preset),
-        35 => position_shown(profile, reading),
-        36 => Shown::Number(1),
-        37 => Shown::Number(profile.step),
-        38 => Shown::Number(device.settings.communication.pdo1.event),
-        39 => Shown::Number(status(profile.operating, operational)),
-        40 => Shown::Number(MEASURING_STEP_NANOMETRES),
-        41 => Shown::Number(register(reading.good)),
-        42 => Shown::Number(1),
+        35 => Shown::Number(profile.operating),
+        36 => Shown::Number(profile.range),
+        37 => Shown::Number(profile.preset),
+        38 => position_shown(profile, reading),
+        39 => Shown::Number(1),
+        40 => Shown::Number(profile.step),
+        41 => Shown::Number(device.settings.communication.pdo1.event),
+        42 => Shown::Number(status(profile.operating, operational)),
+        43 => Shown::Number(MEASURING_STEP_NANOMETRES),
+        44 => Shown::Number(register(reading.good)),
+        45 => Shown::Number(1),
         _ => Shown::Number(can::bits(profile.offset)),
     }
 }

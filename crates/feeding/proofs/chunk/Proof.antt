@@ -25,7 +25,9 @@ put-requires : tie.Need-put-requires Inv-loop μ-loop
 put-requires c κs = search feed-room
 
 add-i : tie.Need-add-i Inv-loop μ-loop
-add-i c = omega arith
+add-i c =
+    let l = c .before .before .before .before .before .before .before .before in
+    omega (arith, l .loop-test .taken, l .before .before .before .before .good)
 
 loop-less : tie.Need-loop-less Inv-loop μ-loop
 loop-less c = omega arith

@@ -9,7 +9,7 @@ missing-requires c κs = search needs
 
 returns : tie.Need-returns
 returns c =
-    let at-missing = c .before .before .before .before in
+    let at-missing = c .before .before .before .before .before in
     let start = at-missing .before .before .before .before in
     rw (at-missing .missing .ensures) (samples-missing (start .args .head) (start .pre))
 

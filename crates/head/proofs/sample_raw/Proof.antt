@@ -9,7 +9,7 @@ raw-requires c κs = search needs
 
 returns : tie.Need-returns
 returns c =
-    let at-raw = c .before .before .before .before in
+    let at-raw = c .before .before .before .before .before in
     let start = at-raw .before .before .before .before in
     rw (at-raw .raw .ensures) (samples-raw (start .args .head) (start .pre) (start .args .raw))
 

@@ -13,7 +13,7 @@ tick-requires c κs = search needs
 
 returns : tie.Need-returns
 returns c =
-    let at-tick = c .before .before .before .before .before in
+    let at-tick = c .before .before .before .before .before .before in
     let start = at-tick .before .before .before .before .before in
     let e = at-tick .tick .ensures in
     rw e
@@ -24,7 +24,7 @@ joined-requires c κs = search needs
 
 returns-2 : tie.Need-returns-2
 returns-2 c =
-    let at-tick = c .before .before .before .before .before .before in
+    let at-tick = c .before .before .before .before .before .before .before in
     let start = at-tick .before .before .before .before .before in
     let e = at-tick .tick .ensures in
     rw (c .joined .ensures, e)

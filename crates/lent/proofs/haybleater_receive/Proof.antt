@@ -40,8 +40,8 @@ use Rattle.lending.proofs.Lent.{answers, lent}
 use Rattle.lent.proofs.Rows.{lent-head, head-row, received-row, heard-row, replied-row, synced-row, configured-row, scaled-row}
 use Rattle.lent.proofs.Rows.{entered-row, restarted-row, saved-row, emptied-row}
 use Rattle.lent.proofs.Parts.{nmt, device, line, reply, timers, communication, good, announced, profile, raw, settings, saved}
-use Rattle.lent.proofs.Parts.{node, errors}
-use Rattle.lent.proofs.Results.{heard-refusal, heard-way, heard-state, heard-all, heard-reply, heard-key, heard-value}
+use Rattle.lent.proofs.Parts.{node, errors, transfer}
+use Rattle.lent.proofs.Results.{heard-refusal, heard-transfer, heard-way, heard-state, heard-all, heard-reply, heard-key, heard-value}
 use Rattle.lent.proofs.Results.{replied-reply, replied-line, synced-timers, synced-line, scaled-profile, scaled-reply, scaled-line}
 use Rattle.lent.proofs.Results.{configured-communication, configured-timers, configured-reply, configured-line}
 use Rattle.lent.proofs.Results.{entered-nmt, entered-timers, entered-line}
@@ -55,8 +55,10 @@ pub haybleater-receive-spec : {M : Type 1} → statement M
 unfolding code.routine
 haybleater-receive-spec 𝓤 H 𝓜 𝓖 𝓡 =
     lent (uint-row w8) head-row lent-head (entry received-row ∷ [])
-    (step hear.name heard-row (head (nmt .from) ∷ head device ∷ head (line .from) ∷ known (here whole) ∷ [])
-    (λ a. one (ValidProfile (a .1 .0 .settings .profile))) (λ a z. one (z ≡ heardBy (a .0) (a .1 .0) (a .1 .1 .0) (a .1 .1 .1 .0))))
+    (step hear.name heard-row (head (nmt .from) ∷ head device ∷ head (transfer .from) ∷ head (line .from) ∷ known (here whole) ∷ [])
+    (λ a. one (ValidProfile (a .1 .0 .settings .profile)))
+    (λ a z. one (z ≡ heardBy (a .0) (a .1 .0) (a .1 .1 .0) (a .1 .1 .1 .0) (a .1 .1 .1 .1 .0))))
+    (store (here (heard-transfer ▸ whole)) (transfer .into)
     (match (here (heard-way ▸ whole))
     -- a reply
     (way 1
@@ -125,7 +127,7 @@ haybleater-receive-spec 𝓤 H 𝓜 𝓖 𝓡 =
     (λ a z. one (z ≡ emptiedBy (a .0) (a .1 .0))))
     (store (here (emptied-errors ▸ whole)) (errors .into)
     (store (here (emptied-reply ▸ whole)) (reply .into) (store (here (emptied-line ▸ whole)) (line .into) stop))))
-    otherwise)))))))))
+    otherwise))))))))))
     (answers (here (heard-refusal ▸ whole)))
     (λ h xs. one (Valid h)) (λ h xs n h′. one (Receives h (xs .0) (answered n h′)))
     (λ h xs v.

@@ -21,8 +21,27 @@ command-for-requires c κs = search needs
 framed-requires : tie.Need-framed-requires
 framed-requires c κs = search needs
 
+array-read-word : tie.Need-array-read-word
+array-read-word c = search needs
+
+array-read-word-2 : tie.Need-array-read-word-2
+array-read-word-2 c = search needs
+
+word-requires : tie.Need-word-requires
+word-requires c κs = search needs
+
+started-requires : tie.Need-started-requires
+started-requires c κs = search needs
+
 returns-2 : tie.Need-returns-2
-returns-2 c = rw (c .before .before .before .entry .given .1, c .framed .ensures, c .before .command-for .ensures)
+returns-2 c =
+    rw (
+      c .before .before .before .before .before .entry .given .1,
+      c .before .before .framed .ensures,
+      c .before .before .before .command-for .ensures,
+      c .started .ensures,
+      c .before .word .ensures,
+    )
 
 pub shown-spec : {M : Type 1} → statement M
 shown-spec =
@@ -34,4 +53,8 @@ shown-spec =
     returns
     command-for-requires
     framed-requires
+    array-read-word
+    array-read-word-2
+    word-requires
+    started-requires
     returns-2)

@@ -1,42 +1,45 @@
--- `serve` meets its contract: the client's abort, or 01's list.
-use mathlib.Core.Path.{sym, _∙_}
-use Rattle.sdo.proofs.Due.{none-due, reply-due}
+-- `serve` meets its contract: a segment request while a transfer runs, or a first request.
+use mathlib.Core.Path.{_∙_}
+use Rattle.sdo.specs.Upload.{dueIn}
 use borrow.Author.Needs.{needs}
 use Rattle.serving.proofs.serve.Statement.{statement}
 use Rattle.serving.proofs.serve.Tie as tie
 
-array-read-is-abort : tie.Need-array-read-is-abort
-array-read-is-abort c = search needs
+array-read-command : tie.Need-array-read-command
+array-read-command c = search needs
 
-is-abort-requires : tie.Need-is-abort-requires
-is-abort-requires c κs = search needs
+runs-requires : tie.Need-runs-requires
+runs-requires c κs = search needs
 
-no-reply-requires : tie.Need-no-reply-requires
-no-reply-requires c κs = search needs
+is-segment-requires : tie.Need-is-segment-requires
+is-segment-requires c κs = search needs
+
+segment-requires : tie.Need-segment-requires
+segment-requires c κs = search needs
 
 returns : tie.Need-returns
-returns c = c .no-reply .ensures ∙ none-due _ _ _ (sym (c .before .before .is-abort .ensures) ∙ c .before .if1 .taken)
+unfolding dueIn
+returns c =
+    c .segment .ensures
+    ∙ rw (← (c .before .before .before .runs .ensures), ← (c .before .before .is-segment .ensures), c .before .if1 .taken)
 
-taken-apart-requires : tie.Need-taken-apart-requires
-taken-apart-requires c κs = search needs
-
-reply-to-requires : tie.Need-reply-to-requires
-reply-to-requires c κs = search needs
+first-requires : tie.Need-first-requires
+first-requires c κs = search needs
 
 returns-2 : tie.Need-returns-2
+unfolding dueIn
 returns-2 c =
-    c .reply-to .ensures
-    ∙ rw (c .before .taken-apart .ensures)
-    (reply-due _ _ _ (sym (c .before .before .before .is-abort .ensures) ∙ c .before .before .if1 .left))
+    c .first .ensures
+    ∙ rw (← (c .before .before .before .runs .ensures), ← (c .before .before .is-segment .ensures), c .before .if1 .left)
 
 pub serve-spec : {M : Type 1} → statement M
 serve-spec =
     tie.close
     (tie.spec
-    array-read-is-abort
-    is-abort-requires
-    no-reply-requires
+    array-read-command
+    runs-requires
+    is-segment-requires
+    segment-requires
     returns
-    taken-apart-requires
-    reply-to-requires
+    first-requires
     returns-2)

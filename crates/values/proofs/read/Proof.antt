@@ -10,9 +10,9 @@ use Rattle.values.proofs.read.Tie as tie
 read-pdo-requires : tie.Need-read-pdo-requires
 read-pdo-requires c κs =
     let start = c .before .before .before in
-    (past 0 20 (omega arith) (c .match .rest), start .pre .0, start .pre .1)
+    (past 0 23 (omega arith) (c .match .rest), start .pre .0, start .pre .1)
 
-rest : tie.Need-returns-21
+rest : tie.Need-returns-24
 rest c = search needs
 
 pub read-spec : {M : Type 1} → statement M
@@ -25,6 +25,9 @@ read-spec =
     (λ c κs. search needs)
     (λ c κs. search needs)
     (λ c κs. search needs)
+    (λ c. search needs)
+    (λ c. search needs)
+    (λ c. search needs)
     read-pdo-requires
     (λ c. rw (c .match .keys1))
     (λ c. rw (c .before .match .keys2, c .register .ensures))
@@ -34,9 +37,9 @@ read-spec =
     (λ c. rw (c .before .match .keys6, c .error-shown3 .ensures))
     (λ c. rw (c .before .match .keys7, c .error-shown4 .ensures))
     (λ c. rw (c .match .keys8))
-    (λ c. rw (c .match .keys9))
-    (λ c. rw (c .match .keys10))
-    (λ c. rw (c .match .keys11))
+    (λ c. rw (c .before .match .keys9))
+    (λ c. rw (c .before .match .keys10))
+    (λ c. rw (c .before .match .keys11))
     (λ c. rw (c .match .keys12))
     (λ c. rw (c .match .keys13))
     (λ c. rw (c .match .keys14))
@@ -46,4 +49,7 @@ read-spec =
     (λ c. rw (c .match .keys18))
     (λ c. rw (c .match .keys19))
     (λ c. rw (c .match .keys20))
+    (λ c. rw (c .match .keys21))
+    (λ c. rw (c .match .keys22))
+    (λ c. rw (c .match .keys23))
     rest)

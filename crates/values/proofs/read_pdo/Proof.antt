@@ -9,7 +9,7 @@ use Rattle.values.proofs.read_pdo.Tie as tie
 read-profile-requires : tie.Need-read-profile-requires
 read-profile-requires c κs =
     let start = c .before .before in
-    (past 20 12 (start .pre .0) (c .match .rest), start .pre .1, start .pre .2)
+    (past 23 12 (start .pre .0) (c .match .rest), start .pre .1, start .pre .2)
 
 rest : tie.Need-returns-13
 rest c = search needs

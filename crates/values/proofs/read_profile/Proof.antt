@@ -14,8 +14,8 @@ rest : tie.Need-returns-12
 unfolding shownAt entries
 rest c =
     let start = c .before .before .before .before .before in
-    let least = past 32 11 (start .pre .0) (c .before .before .match .rest) in
-    let last : start .args .place ≡ 43 = omega (arith, rows-are) in
+    let least = past 35 11 (start .pre .0) (c .before .before .match .rest) in
+    let last : start .args .place ≡ 46 = omega (arith, rows-are) in
     rw (last, c .bits .ensures, offset-passed (start .pre .2))
 
 pub read-profile-spec : {M : Type 1} → statement M

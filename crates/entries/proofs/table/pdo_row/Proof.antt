@@ -6,7 +6,7 @@ use Rattle.entries.proofs.table.pdo_row.Statement.{statement}
 use Rattle.entries.proofs.table.pdo_row.Tie as tie
 
 profile-row-requires : tie.Need-profile-row-requires
-profile-row-requires c κs = (past 20 12 (c .before .pre .0) (c .match .rest), c .before .pre .1)
+profile-row-requires c κs = (past 23 12 (c .before .pre .0) (c .match .rest), c .before .pre .1)
 
 rest : tie.Need-returns-13
 rest c = search needs

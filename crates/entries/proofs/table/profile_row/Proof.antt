@@ -10,8 +10,8 @@ use Rattle.entries.proofs.table.profile_row.Tie as tie
 rest : tie.Need-returns-12
 unfolding table entries
 rest c =
-    let least = past 32 11 (c .before .pre .0) (c .match .rest) in
-    let last : c .before .args .place ≡ 43 = omega (arith, rows-are) in
+    let least = past 35 11 (c .before .pre .0) (c .match .rest) in
+    let last : c .before .args .place ≡ 46 = omega (arith, rows-are) in
     rw last
 
 pub profile-row-spec : {M : Type 1} → statement M

@@ -7,9 +7,9 @@ use Rattle.entries.proofs.table.row_at.Statement.{statement}
 use Rattle.entries.proofs.table.row_at.Tie as tie
 
 pdo-row-requires : tie.Need-pdo-row-requires
-pdo-row-requires c κs = (past 0 20 (omega arith) (c .match .rest), c .before .pre)
+pdo-row-requires c κs = (past 0 23 (omega arith) (c .match .rest), c .before .pre)
 
-rest : tie.Need-returns-21
+rest : tie.Need-returns-24
 rest c = search needs
 
 pub row-at-spec : {M : Type 1} → statement M
@@ -38,4 +38,7 @@ row-at-spec =
     (λ c. rw (c .match .keys18))
     (λ c. rw (c .match .keys19))
     (λ c. rw (c .match .keys20))
+    (λ c. rw (c .match .keys21))
+    (λ c. rw (c .match .keys22))
+    (λ c. rw (c .match .keys23))
     rest)

@@ -7,7 +7,7 @@ enter-requires : tie.Need-enter-requires
 enter-requires c κs = search needs
 
 returns : tie.Need-returns
-returns c = rw (c .before .before .before .before .enter .ensures)
+returns c = rw (c .before .before .before .before .before .enter .ensures)
 
 pub entered-spec : {M : Type 1} → statement M
 entered-spec = tie.close (tie.spec enter-requires returns)

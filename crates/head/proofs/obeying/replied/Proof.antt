@@ -7,7 +7,7 @@ reply-requires : tie.Need-reply-requires
 reply-requires c κs = search needs
 
 returns : tie.Need-returns
-returns c = rw (c .before .before .before .reply .ensures)
+returns c = rw (c .before .before .before .before .reply .ensures)
 
 pub replied-spec : {M : Type 1} → statement M
 replied-spec = tie.close (tie.spec reply-requires returns)

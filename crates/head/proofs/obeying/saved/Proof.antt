@@ -7,7 +7,7 @@ save-requires : tie.Need-save-requires
 save-requires c κs = search needs
 
 returns : tie.Need-returns
-returns c = rw (c .before .before .before .before .before .save .ensures)
+returns c = rw (c .before .before .before .before .before .before .save .ensures)
 
 pub saved-spec : {M : Type 1} → statement M
 saved-spec = tie.close (tie.spec save-requires returns)

@@ -7,7 +7,7 @@ scale-requires : tie.Need-scale-requires
 scale-requires c κs = search needs
 
 returns : tie.Need-returns
-returns c = rw (c .before .before .before .before .before .before .scale .ensures)
+returns c = rw (c .before .before .before .before .before .before .before .scale .ensures)
 
 pub scaled-spec : {M : Type 1} → statement M
 scaled-spec = tie.close (tie.spec scale-requires returns)

@@ -7,7 +7,7 @@ announce-requires : tie.Need-announce-requires
 announce-requires c κs = search needs
 
 returns : tie.Need-returns
-returns c = rw (c .before .before .before .announce .ensures)
+returns c = rw (c .before .before .before .before .announce .ensures)
 
 pub announced-spec : {M : Type 1} → statement M
 announced-spec = tie.close (tie.spec announce-requires returns)

@@ -7,7 +7,7 @@ boot-requires : tie.Need-boot-requires
 boot-requires c κs = search needs
 
 returns : tie.Need-returns
-returns c = rw (c .before .before .before .boot .ensures)
+returns c = rw (c .before .before .before .before .boot .ensures)
 
 pub booted-spec : {M : Type 1} → statement M
 booted-spec = tie.close (tie.spec boot-requires returns)

@@ -7,7 +7,7 @@ take-requires : tie.Need-take-requires
 take-requires c κs = search needs
 
 returns : tie.Need-returns
-returns c = rw (c .before .before .take .ensures)
+returns c = rw (c .before .before .before .take .ensures)
 
 pub taken-spec : {M : Type 1} → statement M
 taken-spec = tie.close (tie.spec take-requires returns)

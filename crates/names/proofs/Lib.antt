@@ -1,0 +1,4 @@
+pub mod Text
+pub mod Segments
+pub mod Parts
+pub mod Laws

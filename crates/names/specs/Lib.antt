@@ -1,0 +1,4 @@
+pub mod Name
+pub mod Segment
+pub mod Transfer
+pub mod Laws
