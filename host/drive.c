@@ -3,7 +3,9 @@
  * and writes a 24-byte answer for each to standard output, until the end of input. Numbers are low byte first, unused bytes 0.
  *
  * Call: [0] which
- *   P  power-up: [1] node, [4..8] vendor, [8..12] product, [12..16] revision, [16..20] serial
+ *   P  power-up: [1] node, [4..8] vendor, [8..12] product, [12..16] revision, [16..20] serial; with the names that N gave
+ *   N  half of a name, for all power-ups to come: [1] which, 0 to 2 for 1008h to 100Ah, [2] which half, 0 or 1, [3] the length of
+ *      the name, [8..24] the bytes. Before the first N the names are HEAD, 1 and 1.
  *   F  frame received: [1] extended, [2] remote, [3] length, [4..8] identifier, [8..16] bytes
  *   T  tick     S  sample: [4..8] raw     M  missing     ?  slot
  *   K  keep a copy of the head     R  take the kept copy back
@@ -19,9 +21,10 @@
 #include <string.h>
 #include <unistd.h>
 
-enum { RECORD = 24, RECORDS = 4096 };
+enum { RECORD = 24, RECORDS = 4096, HALF = 16 };
 
 static haybleater_head present, kept;
+static haybleater_name names[3] = {{"HEAD", 4}, {"1", 1}, {"1", 1}};
 
 static void fail(const char *what)
 {
@@ -45,8 +48,20 @@ static uint8_t power_up(const uint8_t *call)
     haybleater_identity identity = {.vendor = number_at(call + 4),
                                     .product = number_at(call + 8),
                                     .revision = number_at(call + 12),
-                                    .serial = number_at(call + 16)};
+                                    .serial = number_at(call + 16),
+                                    .name = names[0],
+                                    .hardware = names[1],
+                                    .software = names[2]};
     return haybleater_power_up(&present, (haybleater_setup){.node = call[1], .identity = identity});
+}
+
+static void take_name(const uint8_t *call)
+{
+    if (call[1] > 2 || call[2] > 1)
+        fail("no such name");
+    haybleater_name *name = &names[call[1]];
+    memcpy(name->bytes + HALF * call[2], call + 8, HALF);
+    name->length = call[3];
 }
 
 static uint8_t receive(const uint8_t *call)
@@ -72,6 +87,7 @@ static void do_call(const uint8_t *call, uint8_t *answer)
 {
     switch (call[0]) {
     case 'P': answer[0] = power_up(call); break;
+    case 'N': take_name(call); break;
     case 'F': answer[0] = receive(call); break;
     case 'T': haybleater_tick(&present); break;
     case 'S': answer[0] = haybleater_sample(&present, number_at(call + 4)); break;

@@ -7,7 +7,9 @@ use std::{env, fs};
 mod mistakes;
 use mistakes::{Mistake, MISTAKES};
 
-const MODULES: [&str; 7] = ["entry", "frame", "head", "line", "sdo", "settings", "wire"];
+const MODULES: [&str; 8] = [
+    "entry", "frame", "head", "line", "sdo", "settings", "upload", "wire",
+];
 
 fn main() {
     println!("cargo:rerun-if-changed=src");

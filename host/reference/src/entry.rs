@@ -21,6 +21,8 @@ pub(super) enum Entry {
     Inhibit,
     Heartbeat,
     Identity(u8),
+    /// The index; the sub-index is 0.
+    Name(u16),
     PdoIdentifier(Which),
     PdoType(Which),
     PdoTimer(Which),
@@ -52,7 +54,7 @@ impl Entry {
         }
     }
 
-    /// Width in bytes.
+    /// Width in bytes; a name's is that of its size.
     pub(super) fn width(self) -> u8 {
         match self {
             Entry::Fixed(width, _) => width,
@@ -74,6 +76,7 @@ impl Entry {
                 | Entry::ErrorRegister
                 | Entry::Error(_)
                 | Entry::Identity(_)
+                | Entry::Name(_)
                 | Entry::Position
                 | Entry::Status
                 | Entry::Alarms
@@ -89,6 +92,7 @@ fn general(index: u16, sub: u8) -> Option<Entry> {
         (0x1003, 0) => Entry::ErrorCount,
         (0x1003, 1..=4) => Entry::Error(sub),
         (0x1005, 0) => Entry::Fixed(4, SYNC_IDENTIFIER),
+        (0x1008..=0x100A, 0) => Entry::Name(index),
         (0x1010 | 0x1011, 0) => Entry::Fixed(1, 1),
         (0x1010, 1) => Entry::Save,
         (0x1011, 1) => Entry::Load,
@@ -144,6 +148,7 @@ fn has_index(index: u16) -> bool {
             | 0x1001
             | 0x1003
             | 0x1005
+            | 0x1008..=0x100A
             | 0x1010
             | 0x1011
             | 0x1014

@@ -7,19 +7,75 @@ pub mod refusal {
     pub const LENGTH: u8 = 2;
     pub const SAMPLE: u8 = 3;
     pub const NODE: u8 = 4;
+    pub const NAME: u8 = 5;
 }
 
 const HIGHEST_11_BIT: u32 = 0x7FF;
 const HIGHEST_29_BIT: u32 = 0x1FFF_FFFF;
 const LONGEST: u8 = 8;
+const LONGEST_NAME: usize = 32;
 
-/// The four numbers of entry 1018h.
-#[derive(Clone, Copy, PartialEq, Eq, Debug, Default)]
+/// A name as the host gives it: any length, any bytes. Those past the length say nothing.
+#[derive(Clone, Copy, PartialEq, Eq, Debug)]
+pub struct Name {
+    pub bytes: [u8; LONGEST_NAME],
+    pub length: u8,
+}
+
+impl Name {
+    /// Of at most 32 bytes.
+    pub const fn of(text: &[u8]) -> Name {
+        let mut bytes = [0; LONGEST_NAME];
+        let mut at = 0;
+        while at < text.len() {
+            bytes[at] = text[at];
+            at += 1;
+        }
+        Name {
+            bytes,
+            length: text.len() as u8,
+        }
+    }
+
+    pub(super) fn is_valid(&self) -> bool {
+        (1..=LONGEST_NAME).contains(&usize::from(self.length))
+    }
+
+    /// What is left of it when the first bytes are sent.
+    pub(super) fn left(&self, sent: u8) -> &[u8] {
+        let left = usize::from(sent)..usize::from(self.length);
+        self.bytes.get(left).unwrap_or_default()
+    }
+}
+
+/// The four numbers of entry 1018h, and the names of 1008h, 1009h and 100Ah.
+#[derive(Clone, Copy, PartialEq, Eq, Debug)]
 pub struct Identity {
     pub vendor: u32,
     pub product: u32,
     pub revision: u32,
     pub serial: u32,
+    pub names: [Name; 3],
+}
+
+impl Identity {
+    /// That of a head whose power-up was refused.
+    pub const UNKNOWN: Identity = Identity {
+        vendor: 0,
+        product: 0,
+        revision: 0,
+        serial: 0,
+        names: [Name::of(b"?"); 3],
+    };
+
+    pub(super) fn name(&self, index: u16) -> &Name {
+        let [device, hardware, software] = &self.names;
+        match index {
+            0x1008 => device,
+            0x1009 => hardware,
+            _ => software,
+        }
+    }
 }
 
 /// A frame as the host's driver hands it over; any values at all.

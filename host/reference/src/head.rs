@@ -1,8 +1,9 @@
 //! The head: states, timers, waiting line. 01, "States" and "The waiting line".
 
-use super::frame::{refusal, Frame, Identity, Received};
+use super::frame::{refusal, Frame, Identity, Name, Received};
 use super::line::{Kind, Line};
 use super::settings::{Settings, Which, EMERGENCY, OFF};
+use super::upload::Transfer;
 
 const NMT: u32 = 0x000;
 const SYNC: u32 = 0x080;
@@ -79,14 +80,21 @@ pub struct Head {
     due2: Due,
     pub(super) line: Line,
     pub(super) reply: [u8; 8],
+    /// None if no name is being read.
+    pub(super) transfer: Option<Transfer>,
 }
 
 impl Head {
     /// The refusal number or 0, and the head in Initialising.
     pub fn power_up(node: u8, identity: Identity) -> (u8, Head) {
-        match node {
-            1..=127 => (refusal::NONE, Head::new(node, identity)),
-            _ => (refusal::NODE, Head::new(1, Identity::default())),
+        let refused = match node {
+            1..=127 if identity.names.iter().all(Name::is_valid) => refusal::NONE,
+            1..=127 => refusal::NAME,
+            _ => refusal::NODE,
+        };
+        match refused {
+            refusal::NONE => (refused, Head::new(node, identity)),
+            _ => (refused, Head::new(1, Identity::UNKNOWN)),
         }
     }
 
@@ -107,6 +115,7 @@ impl Head {
             due2: Due::IDLE,
             line: Line::EMPTY,
             reply: [0; 8],
+            transfer: None,
         }
     }
 
@@ -219,6 +228,11 @@ impl Head {
         self.inhibit.is_running()
     }
 
+    /// The upload that is under way.
+    pub fn transfer(&self) -> Option<Transfer> {
+        self.transfer
+    }
+
     pub fn node(&self) -> u8 {
         self.node
     }
@@ -254,6 +268,7 @@ impl Head {
         self.state = state;
         if state == State::Stopped {
             self.line.withdraw(Kind::Reply);
+            self.transfer = None;
         }
         self.review_emergency();
         if state == State::Operational {
@@ -268,6 +283,7 @@ impl Head {
     fn reset(&mut self, settings: Settings) {
         self.settings = settings;
         self.state = State::Initialising;
+        self.transfer = None;
         self.line = Line::EMPTY;
         self.inhibit = Countdown::IDLE;
         self.announced_good = true;

@@ -1,4 +1,4 @@
-//! The SDO server: expedited reads and writes. 01, "Service requests".
+//! The SDO server: requests, expedited reads and writes. 01, "Service requests".
 
 use super::entry::Entry;
 use super::frame::Identity;
@@ -8,9 +8,11 @@ use super::settings::{
     Settings, Which, EMERGENCY, INVERTED, MOST_SYNCS, OFF, ON_CHANGE_MAKER, ON_CHANGE_PROFILE,
     RAW_STEP, SCALED_RANGE, SCALING,
 };
+use super::upload::Transfer;
 
 /// Abort codes.
 pub mod abort {
+    pub const TOGGLE: u32 = 0x0503_0000;
     pub const COMMAND: u32 = 0x0504_0001;
     pub const READ_ONLY: u32 = 0x0601_0002;
     pub const NO_INDEX: u32 = 0x0602_0000;
@@ -26,6 +28,7 @@ pub mod abort {
 /// Top three bits of a request's first byte.
 const WRITE: u8 = 1;
 const READ: u8 = 2;
+const SEGMENT: u8 = 3;
 const CLIENT_ABORT: u8 = 4;
 
 const EXPEDITED: u8 = 0x02;
@@ -34,6 +37,7 @@ const SIZE_GIVEN: u8 = 0x01;
 const ANSWER_READ_1: u8 = 0x4F;
 const ANSWER_READ_2: u8 = 0x4B;
 const ANSWER_READ_4: u8 = 0x43;
+const ANSWER_READ_NAME: u8 = 0x41;
 const ANSWER_WRITE: u8 = 0x60;
 const ANSWER_ABORT: u8 = 0x80;
 
@@ -97,15 +101,21 @@ fn value_of(data: [u8; 4], width: u8) -> u32 {
     }
 }
 
+/// `request` names the entry.
 fn reply(first: u8, request: &[u8; 8], value: u32) -> [u8; 8] {
     let [a, b, c, d] = value.to_le_bytes();
     [first, request[1], request[2], request[3], a, b, c, d]
 }
 
-fn answer_to_read(width: u8) -> u8 {
-    match width {
-        1 => ANSWER_READ_1,
-        2 => ANSWER_READ_2,
+pub(super) fn abort_reply(request: &[u8; 8], code: u32) -> [u8; 8] {
+    reply(ANSWER_ABORT, request, code)
+}
+
+fn answer_to_read(entry: Entry) -> u8 {
+    match (entry, entry.width()) {
+        (Entry::Name(_), _) => ANSWER_READ_NAME,
+        (_, 1) => ANSWER_READ_1,
+        (_, 2) => ANSWER_READ_2,
         _ => ANSWER_READ_4,
     }
 }
@@ -139,13 +149,17 @@ fn unless(permitted: bool, code: u32) -> Result<(), u32> {
 impl Head {
     pub(super) fn request(&mut self, bytes: &[u8; 8]) {
         let serves = matches!(self.state, State::PreOperational | State::Operational);
-        if !serves || self.line.holds(Kind::Reply) || bytes[0] >> 5 == CLIENT_ABORT {
+        if !serves || self.line.holds(Kind::Reply) {
             return;
         }
-        self.reply = match self.serve(bytes) {
-            Ok(reply) => reply,
-            Err(code) => reply(ANSWER_ABORT, bytes, code),
+        // Every request ends the transfer; the segment due takes it up again.
+        let running = self.transfer.take();
+        let served = match bytes[0] >> 5 {
+            CLIENT_ABORT => return,
+            SEGMENT => self.segment(bytes, running),
+            _ => self.serve(bytes),
         };
+        self.reply = served.unwrap_or_else(|code| abort_reply(bytes, code));
         self.line.join(Kind::Reply);
     }
 
@@ -153,7 +167,10 @@ impl Head {
         match Request::decode(bytes)? {
             Request::Read(entry) => {
                 let value = self.read(entry).ok_or(abort::BLANK)?;
-                Ok(reply(answer_to_read(entry.width()), bytes, value))
+                if let Entry::Name(index) = entry {
+                    self.transfer = Some(Transfer::start(index));
+                }
+                Ok(reply(answer_to_read(entry), bytes, value))
             }
             Request::Write(entry, value) => {
                 self.check_value(entry, value)?;
@@ -164,7 +181,7 @@ impl Head {
         }
     }
 
-    /// None if the entry is blank.
+    /// None if the entry is blank; of a name its size.
     fn read(&self, entry: Entry) -> Option<u32> {
         let communication = &self.settings.communication;
         let profile = &self.settings.profile;
@@ -179,6 +196,7 @@ impl Head {
             Entry::Inhibit => u32::from(communication.inhibit),
             Entry::Heartbeat => u32::from(communication.heartbeat),
             Entry::Identity(sub) => member(&self.identity, sub),
+            Entry::Name(index) => u32::from(self.identity.name(index).length),
             Entry::PdoIdentifier(which) => communication.pdo(which).identifier,
             Entry::PdoType(which) => u32::from(communication.pdo(which).transmission),
             Entry::PdoTimer(which) => u32::from(communication.pdo(which).timer),

@@ -2,11 +2,17 @@
 
 use core::fmt;
 
-use super::frame::{Frame, Identity, Received};
+use super::frame::{Frame, Identity, Name, Received};
 use super::head::Head;
 
 pub const SIZE: usize = 24;
 pub type Packet = [u8; SIZE];
+
+/// A power-up's names, unless others are given.
+pub const NAMES: [Name; 3] = [Name::of(b"HEAD"), Name::of(b"1"), Name::of(b"1")];
+
+/// Bytes of a name that one packet gives.
+const HALF: usize = 16;
 
 #[derive(Clone, Copy, PartialEq, Eq, Debug)]
 pub enum Call {
@@ -23,7 +29,17 @@ pub enum Call {
 }
 
 impl Call {
-    pub fn encode(&self) -> Packet {
+    /// The call's own packet is the last; a power-up's names go before it.
+    pub fn packets(&self) -> impl Iterator<Item = Packet> {
+        let names = match self {
+            Call::PowerUp(_, identity) => Some(encode_names(&identity.names)),
+            _ => None,
+        };
+        let own = core::iter::once(self.encode());
+        names.into_iter().flatten().chain(own)
+    }
+
+    fn encode(&self) -> Packet {
         let mut packet = [0; SIZE];
         match self {
             Call::PowerUp(node, identity) => {
@@ -57,8 +73,8 @@ impl Call {
         packet
     }
 
-    /// None if the first byte names no call.
-    pub fn decode(packet: &Packet) -> Option<Call> {
+    /// None if the first byte names no call. The names are those of a power-up.
+    fn decode(packet: &Packet, names: &[Name; 3]) -> Option<Call> {
         Some(match packet[0] {
             b'P' => {
                 let identity = Identity {
@@ -66,6 +82,7 @@ impl Call {
                     product: get(packet, 8),
                     revision: get(packet, 12),
                     serial: get(packet, 16),
+                    names: *names,
                 };
                 Call::PowerUp(packet[1], identity)
             }
@@ -85,6 +102,28 @@ impl Call {
             _ => return None,
         })
     }
+}
+
+/// Each name in two halves.
+fn encode_names(names: &[Name; 3]) -> [Packet; 6] {
+    let mut packets = [[0; SIZE]; 6];
+    for (at, packet) in packets.iter_mut().enumerate() {
+        let (which, half) = (at / 2, at % 2);
+        let name = &names[which];
+        packet[..4].copy_from_slice(&[b'N', which as u8, half as u8, name.length]);
+        packet[8..].copy_from_slice(&name.bytes[half * HALF..][..HALF]);
+    }
+    packets
+}
+
+/// None if there is no such name or half.
+fn decode_name(packet: &Packet, names: &mut [Name; 3]) -> Option<()> {
+    let name = names.get_mut(usize::from(packet[1]))?;
+    let mut halves = name.bytes.chunks_exact_mut(HALF);
+    let half = halves.nth(usize::from(packet[2]))?;
+    half.copy_from_slice(&packet[8..]);
+    name.length = packet[3];
+    Some(())
 }
 
 #[derive(Clone, Copy, PartialEq, Eq, Debug)]
@@ -176,23 +215,47 @@ fn eight(packet: &Packet) -> [u8; 8] {
 pub struct Server {
     pub head: Head,
     kept: Head,
+    /// Of power-ups that come as packets.
+    names: [Name; 3],
 }
 
 impl Server {
     pub fn new() -> Server {
-        let (_, head) = Head::power_up(1, Identity::default());
-        Server { head, kept: head }
+        let (_, head) = Head::power_up(1, Identity::UNKNOWN);
+        Server {
+            head,
+            kept: head,
+            names: NAMES,
+        }
     }
 
     pub fn answer(&mut self, call: &Call) -> Answer {
         let outcome = self.outcome(call);
-        let view = View {
+        let view = self.view();
+        Answer { outcome, view }
+    }
+
+    /// The answer to a packet; none if it is of no call.
+    pub fn respond(&mut self, packet: &Packet) -> Option<Packet> {
+        let answer = if packet[0] == b'N' {
+            decode_name(packet, &mut self.names)?;
+            Answer {
+                outcome: Outcome::Number(0),
+                view: self.view(),
+            }
+        } else {
+            self.answer(&Call::decode(packet, &self.names)?)
+        };
+        Some(answer.encode())
+    }
+
+    fn view(&self) -> View {
+        View {
             state: self.head.nmt_state(),
             waits: self.head.anything_waits(),
             good: self.head.reading_good(),
             position: self.head.position().unwrap_or(0),
-        };
-        Answer { outcome, view }
+        }
     }
 
     fn outcome(&mut self, call: &Call) -> Outcome {
@@ -223,11 +286,7 @@ impl Default for Server {
 impl fmt::Display for Call {
     fn fmt(&self, out: &mut fmt::Formatter) -> fmt::Result {
         match self {
-            Call::PowerUp(node, id) => write!(
-                out,
-                "P {node} {} {} {} {}",
-                id.vendor, id.product, id.revision, id.serial
-            ),
+            Call::PowerUp(node, identity) => write_power_up(out, *node, identity),
             Call::Receive(frame) => write_received(out, frame),
             Call::Tick => write!(out, "T 1"),
             Call::Sample(raw) => write!(out, "S {raw}"),
@@ -239,6 +298,33 @@ impl fmt::Display for Call {
     }
 }
 
+fn write_power_up(out: &mut fmt::Formatter, node: u8, identity: &Identity) -> fmt::Result {
+    let Identity {
+        vendor,
+        product,
+        revision,
+        serial,
+        names,
+    } = identity;
+    write!(out, "P {node} {vendor} {product} {revision} {serial}")?;
+    if *names == NAMES {
+        return Ok(());
+    }
+    for name in names {
+        write!(out, " {}/", name.length)?;
+        for byte in &name.bytes[..shown(&name.bytes)] {
+            write!(out, "{byte:02X}")?;
+        }
+    }
+    Ok(())
+}
+
+/// Up to the last byte that isn't 0.
+fn shown(bytes: &[u8]) -> usize {
+    let seen = bytes.iter().rposition(|byte| *byte != 0);
+    seen.map_or(0, |last| last + 1)
+}
+
 fn write_received(out: &mut fmt::Formatter, frame: &Received) -> fmt::Result {
     let letter = match (frame.extended, frame.remote) {
         (false, false) => "F",
@@ -248,9 +334,8 @@ fn write_received(out: &mut fmt::Formatter, frame: &Received) -> fmt::Result {
     };
     write!(out, "{letter} {:03X} {}", frame.identifier, frame.length)?;
     // Bytes past the length are shown only if there is something to see.
-    let seen = frame.bytes.iter().rposition(|byte| *byte != 0);
-    let shown = seen.map_or(0, |last| last + 1);
-    write_bytes(out, &frame.bytes, shown.max(usize::from(frame.length)))
+    let count = shown(&frame.bytes).max(usize::from(frame.length));
+    write_bytes(out, &frame.bytes, count)
 }
 
 fn write_bytes(out: &mut fmt::Formatter, bytes: &[u8; 8], count: usize) -> fmt::Result {

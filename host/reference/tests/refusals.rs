@@ -2,7 +2,7 @@
 
 mod common;
 use common::{data, Bench, IDENTITY};
-use reference::{Head, Identity, Received};
+use reference::{Head, Identity, Name, Received};
 
 fn refusal_of(frame: &Received) -> u8 {
     let mut head = Bench::pre_operational().head;
@@ -58,17 +58,67 @@ fn samples() {
     assert_eq!(bench.head.sample(1_048_575), 0);
 }
 
+fn stand_in() -> Head {
+    Head::power_up(1, Identity::UNKNOWN).1
+}
+
 #[test]
 fn nodes() {
-    let (_, stand_in) = Head::power_up(1, Identity::default());
     for node in [0, 128, 255] {
-        assert_eq!(Head::power_up(node, IDENTITY), (4, stand_in));
+        assert_eq!(Head::power_up(node, IDENTITY), (4, stand_in()));
     }
     for node in [1, 127] {
         let (refusal, mut head) = Head::power_up(node, IDENTITY);
         assert_eq!(refusal, 0);
         let boot_up = head.slot().expect("boot-up");
         assert_eq!(boot_up.identifier, 0x700 + u32::from(node));
+    }
+}
+
+/// One of the names has this length.
+fn identity_with(which: usize, length: u8) -> Identity {
+    let mut identity = IDENTITY;
+    identity.names[which] = Name {
+        bytes: [b'x'; 32],
+        length,
+    };
+    identity
+}
+
+#[test]
+fn lengths_of_names() {
+    for which in 0..3 {
+        for length in 0..=255 {
+            let (refusal, head) = Head::power_up(7, identity_with(which, length));
+            if (1..=32).contains(&length) {
+                assert_eq!((refusal, head.node()), (0, 7));
+            } else {
+                assert_eq!((refusal, head), (5, stand_in()));
+            }
+        }
+    }
+}
+
+#[test]
+fn a_name_comes_after_the_node() {
+    for node in [0, 128] {
+        let refused = Head::power_up(node, identity_with(2, 33));
+        assert_eq!(refused, (4, stand_in()));
+    }
+}
+
+#[test]
+fn a_refused_head_has_numbers_0_and_a_name_each() {
+    for (node, length) in [(0, 1), (0, 0), (9, 0)] {
+        let (_, head) = Head::power_up(node, identity_with(0, length));
+        let mut bench = Bench { head };
+        bench.drain();
+        for sub in 1..=4 {
+            assert_eq!(bench.read(0x1018, sub), Ok(0));
+        }
+        for index in [0x1008, 0x1009, 0x100A] {
+            assert_eq!(bench.upload(index), b"?");
+        }
     }
 }
 

@@ -12,10 +12,7 @@ type Responder = Box<dyn FnMut(&Packet) -> Option<Packet>>;
 macro_rules! responder {
     ($head:ident) => {{
         let mut server = $head::wire::Server::new();
-        Box::new(move |packet: &Packet| {
-            let call = $head::wire::Call::decode(packet)?;
-            Some(server.answer(&call).encode())
-        })
+        Box::new(move |packet: &Packet| server.respond(packet))
     }};
 }
 

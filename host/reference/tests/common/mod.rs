@@ -1,13 +1,15 @@
 //! A head on the bench, and short ways to handle it.
 #![allow(dead_code)]
 
-use reference::{Frame, Head, Identity, Kind, Received};
+use reference::wire::NAMES;
+use reference::{Frame, Head, Identity, Kind, Name, Received};
 
 pub const IDENTITY: Identity = Identity {
     vendor: 1,
     product: 2,
     revision: 3,
     serial: 4,
+    names: NAMES,
 };
 
 pub const SAVE: u32 = 0x6576_6173;
@@ -43,6 +45,17 @@ impl Bench {
     /// The reading missing and announced, nothing waiting.
     pub fn pre_operational() -> Bench {
         let mut bench = Bench::initialising();
+        bench.drain();
+        bench
+    }
+
+    /// The same, with a name for 1008h.
+    pub fn named(name: &[u8]) -> Bench {
+        let mut identity = IDENTITY;
+        identity.names[0] = Name::of(name);
+        let (refusal, head) = Head::power_up(1, identity);
+        assert_eq!(refusal, 0);
+        let mut bench = Bench { head };
         bench.drain();
         bench
     }
@@ -121,6 +134,25 @@ impl Bench {
             0x80 => Err(value),
             _ => Ok(value),
         }
+    }
+
+    /// All of a name, by segments.
+    pub fn upload(&mut self, index: u16) -> Vec<u8> {
+        let size = self.read(index, 0).expect("a size");
+        let mut name = Vec::new();
+        for toggle in [0x60, 0x70].into_iter().cycle() {
+            let reply = self.ask([toggle, 0, 0, 0, 0, 0, 0, 0]);
+            assert_eq!(reply[0] & 0xF0, toggle & 0x10);
+            let used = 7 - usize::from(reply[0] >> 1 & 0x07);
+            name.extend_from_slice(&reply[1..=used]);
+            assert!(reply[1 + used..].iter().all(|byte| *byte == 0));
+            if reply[0] & 0x01 != 0 {
+                break;
+            }
+            assert_eq!(used, 7);
+        }
+        assert_eq!(name.len() as u32, size);
+        name
     }
 
     /// Without a size, so that any entry takes it.

@@ -4,8 +4,8 @@ use std::fs;
 use std::io;
 use std::path::{Path, PathBuf};
 
-use reference::wire::{Answer, Call, Packet};
-use reference::{Identity, Received};
+use reference::wire::{Answer, Call, Packet, NAMES};
+use reference::{Identity, Name, Received};
 
 use crate::driver::Driver;
 use crate::shrink::due;
@@ -160,15 +160,39 @@ fn parse_calls(words: &[&str]) -> Option<Vec<Call>> {
 }
 
 fn parse_identity(words: &[&str]) -> Option<Identity> {
-    let [vendor, product, revision, serial] = *words else {
+    let [vendor, product, revision, serial, ref names @ ..] = *words else {
         return None;
+    };
+    let names = match *names {
+        [] => NAMES,
+        [device, hardware, software] => [
+            parse_name(device)?,
+            parse_name(hardware)?,
+            parse_name(software)?,
+        ],
+        _ => return None,
     };
     Some(Identity {
         vendor: vendor.parse().ok()?,
         product: product.parse().ok()?,
         revision: revision.parse().ok()?,
         serial: serial.parse().ok()?,
+        names,
     })
+}
+
+/// The length, a stroke, and the bytes.
+fn parse_name(word: &str) -> Option<Name> {
+    let (length, pairs) = word.split_once('/')?;
+    let mut name = Name::of(&[]);
+    name.length = length.parse().ok()?;
+    if pairs.len() % 2 != 0 || pairs.len() > 2 * name.bytes.len() {
+        return None;
+    }
+    for (at, byte) in name.bytes.iter_mut().enumerate().take(pairs.len() / 2) {
+        *byte = u8::from_str_radix(pairs.get(2 * at..2 * at + 2)?, 16).ok()?;
+    }
+    Some(name)
 }
 
 fn parse_frame(letter: &str, identifier: &str, length: &str, words: &[&str]) -> Option<Received> {

@@ -4,9 +4,9 @@ use std::collections::BTreeMap;
 use std::fmt;
 
 use reference::wire::{Answer, Call, Outcome};
-use reference::{abort, Frame, Head, Kind, Received, State};
+use reference::{abort, refusal, Frame, Head, Identity, Kind, Received, State, Transfer};
 
-use crate::dictionary::{peek, ENTRIES};
+use crate::dictionary::{peek, ENTRIES, NAMES};
 
 /// Group, what, how.
 type Item = (&'static str, &'static str, &'static str);
@@ -18,7 +18,8 @@ const STATES: [(u8, &str); 4] = [
     (State::PreOperational as u8, "Pre-operational"),
 ];
 
-const ABORTS: [(u32, &str); 10] = [
+const ABORTS: [(u32, &str); 11] = [
+    (abort::TOGGLE, "0503 0000h"),
     (abort::COMMAND, "0504 0001h"),
     (abort::READ_ONLY, "0601 0002h"),
     (abort::NO_INDEX, "0602 0000h"),
@@ -39,7 +40,7 @@ const KINDS: [(Kind, &str); 5] = [
     (Kind::Tpdo2, "TPDO2"),
 ];
 
-const REFUSALS: [&str; 5] = ["", "1", "2", "3", "4"];
+const REFUSALS: [&str; 6] = ["", "1", "2", "3", "4", "5"];
 const LENGTHS: [&str; 6] = ["0", "1", "2", "3", "4", "5"];
 
 const POWER_UP: &str = "by power-up";
@@ -54,6 +55,45 @@ const RESET: &str = "by reset";
 const TO_STOPPED: &str = "by entry to Stopped";
 const TO_OPERATIONAL: &str = "by entry to Operational";
 const TO_PRE_OPERATIONAL: &str = "by entry to Pre-operational";
+
+const READ: &str = "by read";
+const WRITE: &str = "by write";
+const SEGMENT: &str = "by segment";
+const WRONG_TOGGLE: &str = "by wrong toggle";
+const CLIENT_ABORT: &str = "by client's abort";
+const OTHER_REQUEST: &str = "by other top bits";
+
+const TRANSFERS: [(&str, &[&str]); 3] = [
+    (
+        "over",
+        &[
+            READ,
+            WRITE,
+            SEGMENT,
+            WRONG_TOGGLE,
+            CLIENT_ABORT,
+            OTHER_REQUEST,
+            RESET,
+            TO_STOPPED,
+        ],
+    ),
+    // By the read of a name: another one.
+    (
+        "running",
+        &[READ, SEGMENT, TO_OPERATIONAL, TO_PRE_OPERATIONAL],
+    ),
+    (
+        "running, a reply waits",
+        &[
+            READ,
+            WRITE,
+            SEGMENT,
+            WRONG_TOGGLE,
+            CLIENT_ABORT,
+            OTHER_REQUEST,
+        ],
+    ),
+];
 
 const JOINS: [(&str, &[&str]); 5] = [
     (
@@ -91,7 +131,7 @@ const WITHDRAWALS: [(&str, &[&str]); 5] = [
     ),
 ];
 
-const SINGLE: [Item; 27] = [
+const SINGLE: [Item; 32] = [
     ("sent", "boot-up", ""),
     ("sent", "emergency", "missing"),
     ("sent", "emergency", "good"),
@@ -101,6 +141,9 @@ const SINGLE: [Item; 27] = [
     ("sent", "reply", "read 1 byte"),
     ("sent", "reply", "read 2 bytes"),
     ("sent", "reply", "read 4 bytes"),
+    ("sent", "reply", "read a name"),
+    ("sent", "reply", "segment"),
+    ("sent", "reply", "last segment"),
     ("sent", "reply", "write"),
     ("sent", "reply", "abort"),
     ("sent", "TPDO1", ""),
@@ -119,12 +162,16 @@ const SINGLE: [Item; 27] = [
     ("reset", "81h", ""),
     ("reset", "82h", ""),
     ("request", "while a reply waits", ""),
+    ("request", "segment", "without a transfer"),
+    ("refusal", "4", "before 5"),
 ];
 
 pub struct Coverage {
     counts: BTreeMap<Item, u64>,
     unforeseen: Vec<Item>,
     nodes: [bool; 128],
+    /// By the length of the name.
+    uploads: [bool; 33],
 }
 
 impl Coverage {
@@ -143,12 +190,18 @@ impl Coverage {
                 items.push(("entry written", entry.name, ""));
             }
         }
+        for (_, name) in NAMES {
+            items.extend(["empty", "too long"].map(|fault| ("bad name", name, fault)));
+            items.push(("write to a name", name, ""));
+        }
+        items.extend(crossed("transfer", &TRANSFERS));
         items.extend(crossed("joined", &JOINS));
         items.extend(crossed("withdrawn", &WITHDRAWALS));
         Coverage {
             counts: items.into_iter().map(|item| (item, 0)).collect(),
             unforeseen: Vec::new(),
             nodes: [false; 128],
+            uploads: [false; 33],
         }
     }
 
@@ -164,7 +217,10 @@ impl Coverage {
         self.count(("state", state_name(answer.view.state), ""));
         self.count(("line", LENGTHS[after.count_waiting()], ""));
         match (call, answer.outcome) {
-            (Call::PowerUp(..), _) => self.nodes[usize::from(after.node())] = true,
+            (Call::PowerUp(_, identity), Outcome::Number(number)) => {
+                self.nodes[usize::from(after.node())] = true;
+                self.observe_names(identity, number);
+            }
             (Call::Receive(frame), _) => self.observe_frame(before, frame, after),
             (Call::Tick, _) => self.observe_tick(before, after),
             (_, Outcome::Sent(frame)) => self.observe_sent(before, &frame, after),
@@ -175,6 +231,54 @@ impl Coverage {
             self.count(("refusal", REFUSALS[usize::from(number)], ""));
         }
         self.observe_line(before, call, after);
+        self.observe_transfer(before, call, after);
+    }
+
+    fn observe_names(&mut self, identity: &Identity, number: u8) {
+        for ((_, name), given) in NAMES.iter().zip(&identity.names) {
+            let fault = match given.length {
+                0 => "empty",
+                1..=32 => continue,
+                _ => "too long",
+            };
+            match number {
+                refusal::NODE => self.count(("refusal", "4", "before 5")),
+                _ => self.count(("bad name", name, fault)),
+            }
+        }
+    }
+
+    fn observe_transfer(&mut self, before: &Head, call: &Call, after: &Head) {
+        let request = match call {
+            Call::Receive(frame) if is_request(before, frame) => Some(frame),
+            _ => None,
+        };
+        let Some(transfer) = before.transfer() else {
+            let asks = request.is_some_and(|frame| frame.bytes[0] >> 5 == 3);
+            if asks && joined(before, after, Kind::Reply) {
+                self.count(("request", "segment", "without a transfer"));
+            }
+            return;
+        };
+        let cause = match request {
+            Some(frame) => cause_in(&transfer, frame),
+            None => cause(before, call, after),
+        };
+        let over = after.transfer().is_none();
+        if cause == POWER_UP || cause == COPY {
+            return;
+        }
+        if request.is_some() && before.waits(Kind::Reply) {
+            self.count(("transfer", "running, a reply waits", cause));
+        } else if over {
+            self.count(("transfer", "over", cause));
+        } else if request.is_some() || before.nmt_state() != after.nmt_state() {
+            self.count(("transfer", "running", cause));
+        }
+        if over && cause == SEGMENT {
+            let length = peek(before, transfer.index, 0).unwrap_or_default();
+            self.uploads[length as usize] = true;
+        }
     }
 
     fn observe_line(&mut self, before: &Head, call: &Call, after: &Head) {
@@ -278,12 +382,19 @@ impl Coverage {
                 let code = u32::from_le_bytes(data);
                 let known = ABORTS.iter().find(|(known, _)| *known == code);
                 self.count(("abort", known.map_or("unknown", |(_, name)| *name), ""));
+                if code == abort::READ_ONLY && NAMES.iter().any(|(named, _)| *named == index) {
+                    self.count(("write to a name", name, ""));
+                }
                 return "abort";
             }
             0x60 => self.count(("entry written", name, "")),
+            0x00..=0x1F => {}
             _ => self.count(("entry read", name, "")),
         }
         match first {
+            0x00..=0x1F if first & 0x01 == 0 => "segment",
+            0x00..=0x1F => "last segment",
+            0x41 => "read a name",
             0x60 => "write",
             0x4F => "read 1 byte",
             0x4B => "read 2 bytes",
@@ -309,6 +420,11 @@ impl Coverage {
                 complaints.push(format!("never met: node {node}"));
             }
         }
+        for (length, met) in self.uploads.iter().enumerate().skip(1) {
+            if !met {
+                complaints.push(format!("never met: upload of {length} bytes"));
+            }
+        }
         complaints
     }
 }
@@ -325,7 +441,8 @@ impl fmt::Display for Coverage {
             write!(out, " [{what}{space}{how}] {count}")?;
         }
         let nodes = self.nodes.iter().filter(|met| **met).count();
-        write!(out, "\n  nodes: {nodes}")
+        let lengths = self.uploads.iter().filter(|met| **met).count();
+        write!(out, "\n  nodes: {nodes}\n  lengths uploaded: {lengths}")
     }
 }
 
@@ -375,6 +492,19 @@ fn cause(before: &Head, call: &Call, after: &Head) -> &'static str {
             "Operational" => TO_OPERATIONAL,
             _ => TO_PRE_OPERATIONAL,
         },
+    }
+}
+
+/// How a request touches a transfer.
+fn cause_in(transfer: &Transfer, request: &Received) -> &'static str {
+    let toggle = request.bytes[0] & 0x10 != 0;
+    match request.bytes[0] >> 5 {
+        1 => WRITE,
+        2 => READ,
+        3 if toggle == transfer.toggle => SEGMENT,
+        3 => WRONG_TOGGLE,
+        4 => CLIENT_ABORT,
+        _ => OTHER_REQUEST,
     }
 }
 

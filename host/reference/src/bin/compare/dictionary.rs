@@ -30,7 +30,10 @@ const fn rw(index: u16, sub: u8, width: u8, name: &'static str) -> Entry {
     }
 }
 
-pub const ENTRIES: [Entry; 44] = [
+/// The names among them; their width is that of the size that a read tells.
+pub const NAMES: [(u16, &str); 3] = [(0x1008, "1008-0"), (0x1009, "1009-0"), (0x100A, "100A-0")];
+
+pub const ENTRIES: [Entry; 47] = [
     ro(0x1000, 0, 4, "1000-0"),
     ro(0x1001, 0, 1, "1001-0"),
     rw(0x1003, 0, 1, "1003-0"),
@@ -39,6 +42,9 @@ pub const ENTRIES: [Entry; 44] = [
     ro(0x1003, 3, 4, "1003-3"),
     ro(0x1003, 4, 4, "1003-4"),
     ro(0x1005, 0, 4, "1005-0"),
+    ro(0x1008, 0, 4, "1008-0"),
+    ro(0x1009, 0, 4, "1009-0"),
+    ro(0x100A, 0, 4, "100A-0"),
     ro(0x1010, 0, 1, "1010-0"),
     rw(0x1010, 1, 4, "1010-1"),
     ro(0x1011, 0, 1, "1011-0"),
@@ -101,6 +107,12 @@ pub fn request(node: u8, command: u8, (index, sub): (u16, u8), data: [u8; 4]) ->
 
 pub fn read(node: u8, index: u16, sub: u8) -> Received {
     request(node, 0x40, (index, sub), [0; 4])
+}
+
+/// Asks for a segment; the top bits and the toggle are put into the bytes.
+pub fn segment(node: u8, toggle: bool, mut bytes: [u8; 8]) -> Received {
+    bytes[0] = 0x60 | u8::from(toggle) << 4 | bytes[0] & 0x0F;
+    data_frame(0x600 + u32::from(node), &bytes)
 }
 
 pub fn nmt(command: u8, node: u8) -> Received {

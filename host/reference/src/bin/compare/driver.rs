@@ -48,13 +48,18 @@ impl Driver {
             Some(link) => link,
             none => none.insert(Link::start(&self.command)?),
         };
-        let bytes = batch.iter().flat_map(|call| call.encode()).collect();
+        let bytes: Vec<u8> = batch.iter().flat_map(Call::packets).flatten().collect();
+        let wanted = bytes.len();
         // A writer that is gone shows as missing answers.
         let _ = link.calls.send(bytes);
-        let mut got = Vec::with_capacity(batch.len() * SIZE);
-        let wanted = (batch.len() * SIZE) as u64;
-        (&mut link.answers).take(wanted).read_to_end(&mut got)?;
-        Ok(got.chunks_exact(SIZE).map(packet).collect())
+        let mut got = Vec::with_capacity(wanted);
+        (&mut link.answers)
+            .take(wanted as u64)
+            .read_to_end(&mut got)?;
+        // The answer to a call is that to its last packet.
+        let mut answers = got.chunks_exact(SIZE);
+        let own = |call: &Call| answers.nth(call.packets().count() - 1).map(packet);
+        Ok(batch.iter().map_while(own).collect())
     }
 
     fn end(&mut self) {

@@ -5,7 +5,7 @@ use std::collections::VecDeque;
 use reference::wire::Call;
 use reference::{Head, Kind, Received, State};
 
-use crate::dictionary::{nmt, places, read};
+use crate::dictionary::{nmt, places, read, segment};
 use crate::rng::Rng;
 use crate::scenarios;
 
@@ -18,6 +18,10 @@ pub enum Step {
     Drain,
     /// To Pre-operational or Operational.
     Awake,
+    /// A segment request with these bytes; with bit 4 the toggle is not the one due.
+    Segment([u8; 8]),
+    /// Segments until no transfer runs, and slots until no reply waits.
+    Upload,
 }
 
 pub struct Generator {
@@ -87,10 +91,18 @@ impl Generator {
                 return Some(Call::Slot);
             }
             Step::Call(call) => return Some(call),
+            Step::Segment(bytes) => {
+                let toggle = due_toggle(head) != (bytes[0] & 0x10 != 0);
+                return Some(Call::Receive(segment(head.node(), toggle, bytes)));
+            }
+            Step::Upload if head.waits(Kind::Reply) => Call::Slot,
+            Step::Upload if head.transfer().is_some() => {
+                Call::Receive(segment(head.node(), due_toggle(head), [0; 8]))
+            }
             Step::Settle if head.waits(Kind::Reply) => Call::Slot,
             Step::Drain if head.anything_waits() => Call::Slot,
             Step::Awake => wake(head)?,
-            Step::Settle | Step::Drain => return None,
+            Step::Settle | Step::Drain | Step::Upload => return None,
         };
         self.steps.push_front(step);
         Some(call)
@@ -136,10 +148,12 @@ impl Generator {
         self.call(Call::Restore);
     }
 
+    /// The segment request shows whether a transfer runs.
     fn read_all(&mut self, node: u8) {
+        self.steps.extend([Step::Segment([0; 8]), Step::Upload]);
         for &(index, sub) in &self.places {
             let request = Call::Receive(read(node, index, sub));
-            self.steps.extend([Step::Call(request), Step::Settle]);
+            self.steps.extend([Step::Call(request), Step::Upload]);
         }
     }
 
@@ -161,6 +175,14 @@ impl Generator {
         self.steps.push_back(Step::Settle);
     }
 
+    pub fn segment(&mut self, bytes: [u8; 8]) {
+        self.steps.push_back(Step::Segment(bytes));
+    }
+
+    pub fn upload(&mut self) {
+        self.steps.push_back(Step::Upload);
+    }
+
     pub fn drain(&mut self) {
         self.steps.push_back(Step::Drain);
     }
@@ -174,6 +196,11 @@ impl Generator {
 fn elapsed(left: &mut u32) -> bool {
     *left = left.saturating_sub(1);
     *left == 0
+}
+
+/// 0 if no transfer runs.
+fn due_toggle(head: &Head) -> bool {
+    head.transfer().is_some_and(|transfer| transfer.toggle)
 }
 
 fn wake(head: &Head) -> Option<Call> {

@@ -1,10 +1,11 @@
 //! The scenarios from which the generator makes random calls.
 
-use reference::wire::Call;
-use reference::{Head, Identity, Received, State};
+use reference::wire::{Call, NAMES as USUAL_NAMES};
+use reference::{Head, Identity, Name, Received, State};
 
-use crate::dictionary::{data_frame, nmt, peek, read, request, Entry, ENTRIES};
+use crate::dictionary::{data_frame, nmt, peek, read, request, Entry, ENTRIES, NAMES};
 use crate::generator::Generator;
+use crate::rng::Rng;
 use crate::values::{edge_value, valid_value};
 
 type Scenario = fn(&mut Generator, &Head);
@@ -33,8 +34,10 @@ const SCENARIOS: &[(u32, Scenario)] = &[
     (4, store),
     (6, malformed),
     (3, flood),
+    (4, upload),
+    (12, disturbed_upload),
     (3, noise),
-    (2, renew),
+    (3, renew),
 ];
 
 pub fn choose(generator: &mut Generator, head: &Head) {
@@ -57,6 +60,7 @@ pub fn power_up(generator: &mut Generator) {
         product: word(),
         revision: word(),
         serial: word(),
+        names: some_names(rng),
     };
     let node = if rng.chance(8) {
         rng.pick(&[0, 128, 129, 255, rng.byte() | 0x80])
@@ -71,6 +75,29 @@ pub fn power_up(generator: &mut Generator) {
         good_sample(generator);
         generator.frame(nmt(0x01, 0));
     }
+}
+
+fn some_names(rng: &Rng) -> [Name; 3] {
+    if rng.chance(15) {
+        return USUAL_NAMES;
+    }
+    [(); 3].map(|()| some_name(rng))
+}
+
+/// Mostly of a length in range; there are bytes past the length too.
+fn some_name(rng: &Rng) -> Name {
+    let whole_segments = 7 * rng.between(1, 4);
+    let any = rng.between(1, 32);
+    let mut length = rng.pick(&[1, 4, 8, 32, whole_segments, any, any]);
+    if rng.chance(8) {
+        length = rng.pick(&[0, 0, 33, 255, rng.between(33, 40)]);
+    }
+    let mut name = Name::of(&[]);
+    name.length = length as u8;
+    for byte in &mut name.bytes {
+        *byte = rng.pick(&[0, b'?', rng.byte(), rng.byte()]);
+    }
+    name
 }
 
 fn renew(generator: &mut Generator, _: &Head) {
@@ -506,6 +533,92 @@ fn flood(generator: &mut Generator, head: &Head) {
     }
 }
 
+fn read_name(generator: &mut Generator, head: &Head) {
+    let (index, _) = generator.rng.pick(&NAMES);
+    generator.frame(read(head.node(), index, 0));
+}
+
+fn upload(generator: &mut Generator, head: &Head) {
+    read_name(generator, head);
+    generator.upload();
+}
+
+/// A name is read, and much else comes in between.
+fn disturbed_upload(generator: &mut Generator, head: &Head) {
+    read_name(generator, head);
+    for _ in 0..generator.rng.between(1, 9) {
+        if generator.rng.chance(70) {
+            generator.settle();
+        }
+        if generator.rng.chance(50) {
+            some_segment(generator, 0x00);
+        } else {
+            disturb(generator, head);
+        }
+    }
+    if generator.rng.chance(50) {
+        generator.upload();
+    }
+}
+
+/// With anything in the bits and bytes that say nothing; 10h for the wrong toggle.
+fn some_segment(generator: &mut Generator, wrong: u8) {
+    let mut bytes = generator.rng.next().to_le_bytes();
+    bytes[0] = bytes[0] & 0x0F | wrong;
+    generator.segment(bytes);
+}
+
+fn disturb(generator: &mut Generator, head: &Head) {
+    const DISTURBANCES: &[(u32, Scenario)] = &[
+        (4, |generator, _| some_segment(generator, 0x10)),
+        (4, client_abort),
+        (3, read_name),
+        (2, read_one),
+        (2, write_valid),
+        (2, write_name),
+        (2, odd_request),
+        (3, other_request),
+        (2, reset),
+        (2, |generator, _| generator.frame(nmt(0x02, 0))),
+        (3, |generator, _| generator.frame(nmt(0x80, 0))),
+        (3, |generator, _| generator.frame(nmt(0x01, 0))),
+        (2, flicker),
+        (2, some_ticks),
+        (1, syncs),
+        (1, malformed),
+    ];
+    generator.rng.weighted(DISTURBANCES)(generator, head);
+}
+
+fn client_abort(generator: &mut Generator, head: &Head) {
+    let mut bytes = generator.rng.next().to_le_bytes();
+    bytes[0] = 0x80 | generator.rng.pick(&[0, bytes[0] & 0x1F]);
+    generator.frame(data_frame(0x600 + u32::from(head.node()), &bytes));
+}
+
+/// With top bits that ask for nothing.
+fn other_request(generator: &mut Generator, head: &Head) {
+    let mut bytes = generator.rng.next().to_le_bytes();
+    bytes[0] = bytes[0] & 0x1F | generator.rng.pick(&[0x00, 0xA0, 0xC0, 0xE0]);
+    generator.frame(data_frame(0x600 + u32::from(head.node()), &bytes));
+}
+
+fn write_name(generator: &mut Generator, head: &Head) {
+    let (index, _) = generator.rng.pick(&NAMES);
+    let command = 0x22 | generator.rng.byte() & 0x1F;
+    let data = generator.rng.word().to_le_bytes();
+    generator.frame(request(head.node(), command, (index, 0), data));
+}
+
+/// Mostly the head is brought to life again.
+fn reset(generator: &mut Generator, _: &Head) {
+    let command = generator.rng.pick(&[0x81, 0x82]);
+    generator.frame(nmt(command, 0));
+    if generator.rng.chance(80) {
+        generator.call(Call::Slot);
+    }
+}
+
 /// Any bytes, often to where they may be heard.
 fn noise(generator: &mut Generator, head: &Head) {
     let rng = &generator.rng;
@@ -524,7 +637,7 @@ fn noise(generator: &mut Generator, head: &Head) {
 /// The longest times there are, all at once.
 pub fn long_wait(generator: &mut Generator) {
     let node = generator.next_node();
-    generator.call(Call::PowerUp(node, Identity::default()));
+    generator.call(Call::PowerUp(node, Identity::UNKNOWN));
     generator.drain();
     write_to(generator, node, (0x1801, 1), 0x8000_0181);
     write_to(generator, node, (0x1801, 2), 255);
