@@ -42,6 +42,8 @@ const PRE_OPERATIONAL: u8 = 0x7F;
 const READ_POSITION: [u8; 8] = [0x40, 0x04, 0x60, 0x00, 0, 0, 0, 0];
 const SERIAL: u32 = 0x1234_5678;
 const READ_SERIAL: [u8; 8] = [0x40, 0x18, 0x10, 0x04, 0, 0, 0, 0];
+const NAME: Name = name_of("Haybleater");
+const READ_NAME: [u8; 8] = [0x40, 0x08, 0x10, 0x00, 0, 0, 0, 0];
 
 fn request(bytes: [u8; 8], length: u8) -> Received {
     Received { bytes, identifier: 0x600 + u32::from(NODE), extended: false, remote: false, length }
@@ -53,20 +55,33 @@ unsafe fn next_frame(head: *mut Head) -> Option<(u32, u8, [u8; 8])> {
     waited.then_some((frame.identifier, frame.length, frame.bytes))
 }
 
+/// The bytes of the reply to a request.
+unsafe fn reply(head: *mut Head, bytes: [u8; 8]) -> Option<[u8; 8]> {
+    assert_eq!(receive(head, request(bytes, 8)), 0);
+    next_frame(head).map(|(identifier, length, bytes)| {
+        assert_eq!((identifier, length), (0x585, 8));
+        bytes
+    })
+}
+
 fn main() {
     let mut place = MaybeUninit::<Head>::uninit();
     let head = place.as_mut_ptr();
     unsafe {
-        let identity = Identity { vendor: 1, product: 2, revision: 3, serial: SERIAL };
-        assert_eq!(power_up(head, Setup { node: 0, identity }), 4);
+        let identity = Identity { vendor: 1, product: 2, revision: 3, serial: SERIAL, name: NAME, hardware: name_of("1"), software: name_of("1") };
+        let [empty, long] = ["", "a name that does not fit 32 bytes"].map(|text| Identity { software: name_of(text), ..identity });
+        assert_eq!((power_up(head, Setup { node: 0, identity }), power_up(head, Setup { node: 0, identity: empty })), (4, 4));
+        assert_eq!((power_up(head, Setup { node: NODE, identity: empty }), power_up(head, Setup { node: NODE, identity: long })), (5, 5));
         assert_eq!(power_up(head, Setup { node: NODE, identity }), 0);
         assert_eq!((sample(head, RAW), sample(head, 1 << 20)), (0, 3));
         assert_eq!(next_frame(head), Some((0x705, 1, [0; 8])));
         assert_eq!((state(head), good(head), waits(head)), (PRE_OPERATIONAL, true, false));
         assert_eq!((receive(head, request(READ_POSITION, 9)), receive(head, request(READ_POSITION, 8))), (2, 0));
         assert_eq!(next_frame(head), Some((0x585, 8, [0x43, 0x04, 0x60, 0x00, 0x05, 0x10, 0x01, 0x00])));
-        receive(head, request(READ_SERIAL, 8));
-        assert_eq!(next_frame(head), Some((0x585, 8, [0x43, 0x18, 0x10, 0x04, 0x78, 0x56, 0x34, 0x12])));
+        assert_eq!(reply(head, READ_SERIAL), Some([0x43, 0x18, 0x10, 0x04, 0x78, 0x56, 0x34, 0x12]));
+        assert_eq!(reply(head, READ_NAME), Some([0x41, 0x08, 0x10, 0x00, NAME.length, 0, 0, 0]));
+        assert_eq!(reply(head, [0x60, 0, 0, 0, 0, 0, 0, 0]), Some(*b"\x00Hayblea"));
+        assert_eq!(reply(head, [0x70, 0, 0, 0, 0, 0, 0, 0]), Some(*b"\x19ter\0\0\0\0"));
         let Located { known, position: at } = position(head);
         assert_eq!((known, at), (true, RAW));
         tick(head);

@@ -59,7 +59,10 @@ static bool may_send(void)
 
 int main(void)
 {
-    const haybleater_setup setup = {.node = 1, .identity = {.vendor = 1, .product = 2, .revision = 3, .serial = 4}};
+    const haybleater_setup setup = {
+        .node = 1,
+        .identity = {.vendor = 1, .product = 2, .revision = 3, .serial = 4,
+                     .name = haybleater_name_of("HEAD"), .hardware = haybleater_name_of("1"), .software = haybleater_name_of("1")}};
     uint32_t raw;
     bool on_tape;
     haybleater_received received;

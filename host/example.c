@@ -1,5 +1,6 @@
 /*
- * A host with the head of node 1, which plays the rest of the bus too: 130 ms, of which the tape is lost for 50.
+ * A host with the head of node 1, which plays the rest of the bus too: 130 ms, of which the tape is lost for 50. At 112 ms the master reads
+ * the name that the head was given at power-up: the reply tells its size, and two segments bring its ten bytes.
  * A line is the time in ms and the frame that goes out on the bus then: identifier, length, bytes. `--` says what happened.
  * The CAN controller is a model with one mailbox. Other nodes keep the bus busy from 42 ms to 48 ms, and the tape is lost
  * at 45 ms: the position frame of 43 ms is still in the mailbox then, and the host withdraws it.
@@ -23,6 +24,9 @@ static const struct {
     {60, "read the position (6004h)", {.identifier = 0x601, .length = 8, .bytes = {0x40, 0x04, 0x60, 0x00}}},
     {70, "SYNC", {.identifier = 0x080, .length = 0}},
     {110, "read the position (6004h)", {.identifier = 0x601, .length = 8, .bytes = {0x40, 0x04, 0x60, 0x00}}},
+    {112, "read the name (1008h)", {.identifier = 0x601, .length = 8, .bytes = {0x40, 0x08, 0x10, 0x00}}},
+    {113, "read its first segment, toggle 0", {.identifier = 0x601, .length = 8, .bytes = {0x60}}},
+    {114, "read its next segment, toggle 1", {.identifier = 0x601, .length = 8, .bytes = {0x70}}},
     {120, "SYNC", {.identifier = 0x080, .length = 0}},
 };
 
@@ -104,7 +108,10 @@ static void send_all(haybleater_head *head, uint32_t now_ms)
 int main(void)
 {
     static haybleater_head head;
-    const haybleater_setup setup = {.node = 1, .identity = {.vendor = 1, .product = 2, .revision = 3, .serial = 4}};
+    const haybleater_setup setup = {
+        .node = 1,
+        .identity = {.vendor = 1, .product = 2, .revision = 3, .serial = 4,
+                     .name = haybleater_name_of("Haybleater"), .hardware = haybleater_name_of("1"), .software = haybleater_name_of("1")}};
     if (haybleater_power_up(&head, setup) != HAYBLEATER_NO_REFUSAL)
         return 1;
     printf("  0  -- power-up\n");

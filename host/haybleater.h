@@ -54,6 +54,7 @@ extern "C" {
 #define HAYBLEATER_BAD_LENGTH 2     /* a frame length above 8; HAYBLEATER_BAD_IDENTIFIER comes first */
 #define HAYBLEATER_BAD_SAMPLE 3     /* a raw sample above 1,048,575 */
 #define HAYBLEATER_BAD_NODE 4       /* a node number not 1..127 */
+#define HAYBLEATER_BAD_NAME 5       /* a name's length not 1..32; HAYBLEATER_BAD_NODE comes first */
 
 /* NMT states, each named with its heartbeat code; 00h for Initialising is the byte of the boot-up frame. */
 #define HAYBLEATER_INITIALISING 0x00
@@ -66,15 +67,46 @@ extern "C" {
  * ones. A whole head may be copied by assignment; the copy is another head.
  */
 typedef struct {
-    uint32_t private_to_haybleater[47];
+    uint32_t private_to_haybleater[72];
 } haybleater_head;
 
-/* The identity numbers, which entries 1018-1 to 1018-4 show. */
+/*
+ * A name: 1 to 32 bytes. Bytes from `length` on are ignored, and it needs no terminator. CiA 301 wants bytes 20h to 7Eh; the head
+ * sends every byte as it is.
+ */
+typedef struct {
+    uint8_t bytes[32];
+    uint8_t length;
+} haybleater_name;
+
+/*
+ * The name that a C string spells. An empty string gives a name of length 0 and one of more than 32 bytes a name of length 33:
+ * haybleater_power_up refuses both, so no name is cut.
+ */
+static inline haybleater_name haybleater_name_of(const char *text)
+{
+    haybleater_name name = {{0}, 0};
+    while (name.length < sizeof name.bytes && text[name.length] != '\0') {
+        name.bytes[name.length] = (uint8_t)text[name.length];
+        name.length++;
+    }
+    if (text[name.length] != '\0')
+        name.length++;
+    return name;
+}
+
+/*
+ * What the bus can read of the device: the identity numbers, which entries 1018-1 to 1018-4 show, and three names. SDO clients read
+ * a name in segments: the first reply tells its size.
+ */
 typedef struct {
     uint32_t vendor;
     uint32_t product;
     uint32_t revision;
     uint32_t serial;
+    haybleater_name name;     /* 1008h, manufacturer device name */
+    haybleater_name hardware; /* 1009h, manufacturer hardware version */
+    haybleater_name software; /* 100Ah, manufacturer software version */
 } haybleater_identity;
 
 /* What a head is made with. */
@@ -149,7 +181,8 @@ static inline bool haybleater_is_position(uint32_t identifier)
 /*
  * Makes a head: in Initialising, with factory settings, the saved set equal to them, the reading missing, and the boot-up
  * frame waiting. The memory may hold anything before: it is not read.
- * Refuses a node number not 1..127 with HAYBLEATER_BAD_NODE; a head is made all the same, of node 1 with identity numbers 0.
+ * Refuses a node number not 1..127 with HAYBLEATER_BAD_NODE, and otherwise a name whose length is not 1..32 with
+ * HAYBLEATER_BAD_NAME. A head is made all the same: of node 1, with identity numbers 0 and "?" for each name.
  */
 HAYBLEATER_CALL uint8_t haybleater_power_up(haybleater_head *head, haybleater_setup setup);
 
@@ -295,15 +328,22 @@ static inline bool haybleater_waits(const haybleater_head *head)
 
 HAYBLEATER_CHECK(size_of_bool, sizeof(bool) == 1);
 
-HAYBLEATER_CHECK_SHAPE(head, 188, 4);
+HAYBLEATER_CHECK_SHAPE(head, 288, 4);
 
-HAYBLEATER_CHECK_SHAPE(identity, 16, 4);
+HAYBLEATER_CHECK_SHAPE(name, 33, 1);
+HAYBLEATER_CHECK_FIELD(name, bytes, 0);
+HAYBLEATER_CHECK_FIELD(name, length, 32);
+
+HAYBLEATER_CHECK_SHAPE(identity, 116, 4);
 HAYBLEATER_CHECK_FIELD(identity, vendor, 0);
 HAYBLEATER_CHECK_FIELD(identity, product, 4);
 HAYBLEATER_CHECK_FIELD(identity, revision, 8);
 HAYBLEATER_CHECK_FIELD(identity, serial, 12);
+HAYBLEATER_CHECK_FIELD(identity, name, 16);
+HAYBLEATER_CHECK_FIELD(identity, hardware, 49);
+HAYBLEATER_CHECK_FIELD(identity, software, 82);
 
-HAYBLEATER_CHECK_SHAPE(setup, 20, 4);
+HAYBLEATER_CHECK_SHAPE(setup, 120, 4);
 HAYBLEATER_CHECK_FIELD(setup, node, 0);
 HAYBLEATER_CHECK_FIELD(setup, identity, 4);
 

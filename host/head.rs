@@ -1,5 +1,9 @@
-#[repr(C)] pub struct Head([u32; 47]); // private; made by haybleater_power_up alone
-#[repr(C)] #[derive(Clone, Copy)] pub struct Identity { pub vendor: u32, pub product: u32, pub revision: u32, pub serial: u32 }
+#[repr(C)] pub struct Head([u32; 72]); // private; made by haybleater_power_up alone
+#[repr(C)] #[derive(Clone, Copy)] pub struct Name { pub bytes: [u8; 32], pub length: u8 } // bytes from `length` on are ignored
+#[repr(C)] #[derive(Clone, Copy)] pub struct Identity {
+    pub vendor: u32, pub product: u32, pub revision: u32, pub serial: u32, // 1018h
+    pub name: Name, pub hardware: Name, pub software: Name, // 1008h, 1009h, 100Ah
+}
 #[repr(C)] #[derive(Clone, Copy)] pub struct Setup { pub node: u8, pub identity: Identity }
 #[repr(C)] #[derive(Clone, Copy)] pub struct Received { pub bytes: [u8; 8], pub identifier: u32, pub extended: bool, pub remote: bool, pub length: u8 }
 #[repr(C)] #[derive(Clone, Copy)] pub struct Frame { pub identifier: u32, pub length: u8, pub bytes: [u8; 8] }
@@ -30,6 +34,14 @@ extern "C" { // archives of host/cross: each pointer is to a whole object, and n
     pub fn haybleater_at_good(head: *const Head, good: *mut bool);
     pub fn haybleater_at_position(head: *const Head, located: *mut Located);
     pub fn haybleater_at_waits(head: *const Head, waits: *mut bool);
+}
+
+/// The name that a string spells. Power-up refuses an empty one and one of more than 32 bytes; none is cut.
+pub const fn name_of(text: &str) -> Name {
+    let mut name = Name { bytes: [0; 32], length: if text.len() > 32 { 33 } else { text.len() as u8 } };
+    let mut at = 0;
+    while at < text.len() && at < 32 { name.bytes[at] = text.as_bytes()[at]; at += 1; }
+    name
 }
 
 /// Whether a frame of the head is a position frame.

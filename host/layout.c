@@ -7,7 +7,7 @@
 #include <stdio.h>
 #include <string.h>
 
-enum { CANARY = 64 };
+enum { CANARY = 64, SEGMENT = 7 };
 
 static struct {
     uint8_t before[CANARY];
@@ -18,13 +18,34 @@ static struct {
 static uint8_t fill;
 static bool failed;
 
-static const haybleater_identity identity = {
-    .vendor = 0x11121314, .product = 0x21222324, .revision = 0x31323334, .serial = 0x41424344};
+/* The names of node 5, by the low byte of their index. One fills its array, one a segment. */
+static const struct {
+    const char *what;
+    uint8_t low;
+    const char *text;
+} names[] = {
+    {"identity.name", 0x08, "abcdefghijklmnopqrstuvwxyz012345"},
+    {"identity.hardware", 0x09, "6789ABC"},
+    {"identity.software", 0x0A, "D"},
+};
+
+/* Power-ups that are refused: of a node, with names. */
+static const struct {
+    const char *what;
+    uint8_t node, refusal;
+    const char *name, *hardware, *software;
+} refused[] = {
+    {"power-up of node 128", 128, HAYBLEATER_BAD_NODE, "a", "b", "c"},
+    {"power-up of node 0 without a name", 0, HAYBLEATER_BAD_NODE, "", "b", "c"},
+    {"power-up without a name", 5, HAYBLEATER_BAD_NAME, "", "b", "c"},
+    {"power-up with a hardware version of 33 bytes", 5, HAYBLEATER_BAD_NAME, "a", "abcdefghijklmnopqrstuvwxyz0123456", "c"},
+    {"power-up with a software version of 40 bytes", 5, HAYBLEATER_BAD_NAME, "a", "b", "abcdefghijklmnopqrstuvwxyz01234567890123"},
+};
 
 /* The bytes of a head that power-up need not write: padding. It writes all others. */
 static const struct {
     size_t from, to;
-} padding[] = {{5, 8}, {10, 12}, {45, 48}, {65, 68}};
+} padding[] = {{7, 8}, {10, 12}, {45, 48}, {163, 164}, {165, 168}};
 
 #define READ_VENDOR {0x40, 0x18, 0x10, 1}
 #define REQUEST(...) {.identifier = 0x605, .length = 8, .bytes = {__VA_ARGS__}}
@@ -91,6 +112,12 @@ static void expect_slot(haybleater_outgoing outgoing, const char *when)
     expect_canaries(when);
 }
 
+static void expect_exchange(haybleater_received hears, uint8_t refusal, haybleater_outgoing outgoing, const char *when)
+{
+    expect_refusal(haybleater_receive(&memory.head, hears), refusal, when);
+    expect_slot(outgoing, when);
+}
+
 static void expect_answers(uint8_t state, bool good, bool waits, haybleater_located at, const char *when)
 {
     haybleater_head before = memory.head;
@@ -104,11 +131,22 @@ static void expect_answers(uint8_t state, bool good, bool waits, haybleater_loca
     expect_canaries(when);
 }
 
+static haybleater_setup setup_of(uint8_t node, const char *name, const char *hardware, const char *software)
+{
+    haybleater_setup setup = {
+        .node = node, .identity = {.vendor = 0x11121314, .product = 0x21222324, .revision = 0x31323334, .serial = 0x41424344}};
+    setup.identity.name = haybleater_name_of(name);
+    setup.identity.hardware = haybleater_name_of(hardware);
+    setup.identity.software = haybleater_name_of(software);
+    return setup;
+}
+
 static void power_up_over(uint8_t byte)
 {
+    haybleater_setup setup = setup_of(5, names[0].text, names[1].text, names[2].text);
     fill = byte;
     memset(&memory, fill, sizeof memory);
-    expect_refusal(haybleater_power_up(&memory.head, (haybleater_setup){.node = 5, .identity = identity}), HAYBLEATER_NO_REFUSAL, "power-up of node 5");
+    expect_refusal(haybleater_power_up(&memory.head, setup), HAYBLEATER_NO_REFUSAL, "power-up of node 5");
 }
 
 static bool is_padding(size_t at)
@@ -136,9 +174,38 @@ static void check_power_up(void)
 
 static void check_frames(void)
 {
-    for (size_t i = 0; i < sizeof rows / sizeof rows[0]; i++) {
-        expect_refusal(haybleater_receive(&memory.head, rows[i].hears), rows[i].refusal, rows[i].what);
-        expect_slot(rows[i].outgoing, rows[i].what);
+    for (size_t i = 0; i < sizeof rows / sizeof rows[0]; i++)
+        expect_exchange(rows[i].hears, rows[i].refusal, rows[i].outgoing, rows[i].what);
+}
+
+/* The reply to a segment request: bit 4 is the toggle, bits 3..1 count the bytes that are not used, bit 0 says that it is the last. */
+static haybleater_outgoing segment(const char *text, size_t from, uint8_t toggle)
+{
+    haybleater_outgoing reply = REPLY(toggle);
+    size_t left = strlen(text) - from, used = left < SEGMENT ? left : SEGMENT;
+    if (left <= SEGMENT)
+        reply.frame.bytes[0] = (uint8_t)(toggle + 2 * (SEGMENT - used) + 1);
+    memcpy(&reply.frame.bytes[1], &text[from], used);
+    return reply;
+}
+
+static void check_names(void)
+{
+    for (size_t i = 0; i < sizeof names / sizeof names[0]; i++) {
+        const char *what = names[i].what, *text = names[i].text;
+        uint8_t low = names[i].low, toggle = 0x00;
+        expect_exchange((haybleater_received)REQUEST(0x40, low, 0x10), 0, (haybleater_outgoing)REPLY(0x41, low, 0x10, 0, (uint8_t)strlen(text)), what);
+        for (size_t from = 0; from < strlen(text); from += SEGMENT, toggle ^= 0x10)
+            expect_exchange((haybleater_received)REQUEST(0x60 | toggle), 0, segment(text, from, toggle), what);
+    }
+}
+
+static void check_refused_power_ups(void)
+{
+    for (size_t i = 0; i < sizeof refused / sizeof refused[0]; i++) {
+        haybleater_setup setup = setup_of(refused[i].node, refused[i].name, refused[i].hardware, refused[i].software);
+        expect_refusal(haybleater_power_up(&memory.head, setup), refused[i].refusal, refused[i].what);
+        expect_slot((haybleater_outgoing)SENT(0x701, 1, 0x00), refused[i].what);
     }
 }
 
@@ -155,12 +222,12 @@ static void check_calls(void)
     expect_answers(HAYBLEATER_PRE_OPERATIONAL, true, true, here, "after a sample");
     expect_slot((haybleater_outgoing)SENT(0x085, 8, 0x00), "emergency of a good reading");
     check_frames();
+    check_names();
     haybleater_tick(&memory.head);
     expect_answers(HAYBLEATER_PRE_OPERATIONAL, true, false, here, "after a tick");
     haybleater_missing(&memory.head);
     expect_answers(HAYBLEATER_PRE_OPERATIONAL, false, true, nowhere, "after a missing sample");
-    expect_refusal(haybleater_power_up(&memory.head, (haybleater_setup){.node = 128, .identity = identity}), HAYBLEATER_BAD_NODE, "power-up of node 128");
-    expect_slot((haybleater_outgoing)SENT(0x701, 1, 0x00), "boot-up frame of a refused power-up");
+    check_refused_power_ups();
 }
 
 int main(void)

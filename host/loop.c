@@ -30,12 +30,15 @@ static void send_next(void)
 
 int main(void)
 {
-    const haybleater_setup setup = {.node = 1, .identity = {.vendor = 1, .product = 2, .revision = 3, .serial = 4}};
+    const haybleater_setup setup = {
+        .node = 1,
+        .identity = {.vendor = 1, .product = 2, .revision = 3, .serial = 4,
+                     .name = haybleater_name_of("HEAD"), .hardware = haybleater_name_of("1"), .software = haybleater_name_of("1")}};
     uint32_t raw;
     bool on_tape;
     haybleater_received received;
     if (haybleater_power_up(&head, setup) != HAYBLEATER_NO_REFUSAL)
-        return 1; /* the node number is not 1..127 */
+        return 1; /* the node number is not 1..127, or a name does not have 1 to 32 bytes */
     for (;;) {
         while (board_millisecond_passed())
             haybleater_tick(&head);

@@ -27,12 +27,18 @@ enum { RAW = 69637 };
 #define COMMAND(code) FRAME(0x000, (code), 1)
 #define REQUEST(...) FRAME(0x601, __VA_ARGS__)
 
-static haybleater_setup setup = {.node = 1, .identity = {.vendor = 1, .product = 2, .revision = 3, .serial = 4}};
+/* The device name has a full segment and a last one. */
+static haybleater_setup setup = {
+    .node = 1,
+    .identity = {.vendor = 1, .product = 2, .revision = 3, .serial = 4,
+                 .name = {.bytes = "Haybleater", .length = 10}, .hardware = {.bytes = "1", .length = 1}, .software = {.bytes = "1", .length = 1}}};
 static uint32_t raw = RAW, other_raw = 70000;
 static haybleater_received foreign = FRAME(0x123, 1, 2, 3, 4, 5, 6, 7, 8), sync = {.identifier = 0x080}, start = COMMAND(0x01),
                            stop = COMMAND(0x02), leave = COMMAND(0x80), reset_node = COMMAND(0x81), reset_communication = COMMAND(0x82);
 static haybleater_received read_6004 = REQUEST(0x40, 0x04, 0x60, 0, 0, 0, 0, 0), read_1000 = REQUEST(0x40, 0x00, 0x10, 0, 0, 0, 0, 0),
                            read_1018_4 = REQUEST(0x40, 0x18, 0x10, 4, 0, 0, 0, 0), read_2000 = REQUEST(0x40, 0x00, 0x20, 0, 0, 0, 0, 0);
+static haybleater_received read_1008 = REQUEST(0x40, 0x08, 0x10, 0, 0, 0, 0, 0), segment = REQUEST(0x60, 0, 0, 0, 0, 0, 0, 0),
+                           next_segment = REQUEST(0x70, 0, 0, 0, 0, 0, 0, 0);
 static haybleater_received write_1017 = REQUEST(0x2B, 0x17, 0x10, 0, 0xF4, 0x01, 0, 0), write_1800_5 = REQUEST(0x2B, 0x00, 0x18, 5, 50, 0, 0, 0),
                            write_6003 = REQUEST(0x23, 0x03, 0x60, 0, 40, 0, 0, 0), write_6000 = REQUEST(0x2B, 0x00, 0x60, 0, 1, 0, 0, 0),
                            save = REQUEST(0x23, 0x10, 0x10, 1, 's', 'a', 'v', 'e'), load = REQUEST(0x23, 0x11, 0x10, 1, 'l', 'o', 'a', 'd');
@@ -40,7 +46,8 @@ static const haybleater_received each_second = REQUEST(0x2B, 0x17, 0x10, 0, 0xE8
                                  tpdo1_each_tick = REQUEST(0x2B, 0x00, 0x18, 5, 1, 0, 0, 0);
 
 /* The heads before the calls, as docs/BENCHMARKS.md has them. */
-static haybleater_head initialising, pre_operational, operational, busy, full, announced, with_pdos, synced, lost, asked, beating, started;
+static haybleater_head initialising, pre_operational, operational, busy, full, announced, with_pdos, synced, lost, asked, beating, started, uploading,
+                       ending;
 static union {
     uint8_t byte;
     haybleater_outgoing outgoing;
@@ -78,6 +85,9 @@ static const struct {
     {"read-1018-4", EXPORT(receive), &operational, &read_1018_4, 1},
     {"read-no-index", EXPORT(receive), &operational, &read_2000, 1},
     {"read-blank", EXPORT(receive), &announced, &read_6004, 1},
+    {"read-1008", EXPORT(receive), &operational, &read_1008, 1},
+    {"read-segment", EXPORT(receive), &uploading, &segment, 1},
+    {"read-last-segment", EXPORT(receive), &ending, &next_segment, 1},
     {"write-1017", EXPORT(receive), &operational, &write_1017, 1},
     {"write-1800-5", EXPORT(receive), &operational, &write_1800_5, 1},
     {"write-6003", EXPORT(receive), &operational, &write_6003, 1},
@@ -133,6 +143,8 @@ static void prepare(void)
     operational = sent(heard(sent(heard(pre_operational, each_second)), start));
     synced = heard(operational, sync);
     asked = heard(operational, read_6004);
+    uploading = sent(heard(operational, read_1008));
+    ending = sent(heard(uploading, segment));
     lost = missed(operational);
     announced = sent(lost);
     busy = sent(heard(sent(heard(operational, each_tick)), tpdo1_each_tick));

@@ -21,7 +21,7 @@ start:
   call void @"lent::haybleater_missing"(ptr %a0)
   ret void
 }
-define noundef i8 @haybleater_power_up(ptr noundef %a0, ptr noundef byval([20 x i8]) align 4 %a1) #0 {
+define noundef i8 @haybleater_power_up(ptr noundef %a0, ptr noundef byval([120 x i8]) align 4 %a1) #0 {
 start:
   %r0 = call i8 @"lent::haybleater_power_up"(ptr %a0, ptr %a1)
   ret i8 %r0

@@ -93,6 +93,11 @@ fn read(index: u16, sub: u8) -> Call {
     data(0x601, [0x40, low, high, sub, 0, 0, 0, 0])
 }
 
+/// Asks for a segment.
+fn segment(toggle: u8) -> Call {
+    data(0x601, [0x60 + 16 * toggle, 0, 0, 0, 0, 0, 0, 0])
+}
+
 /// A write of two bytes.
 fn write_2(index: u16, sub: u8, value: u16) -> Call {
     let [low, high] = index.to_le_bytes();
@@ -226,14 +231,21 @@ fn commands() -> Vec<Case> {
 fn reads() -> Vec<Case> {
     let missing = then(operational(), [Call::Missing, Call::Slot]);
     let asked = |name, index, sub, reply| case(name, operational(), read(index, sub), reply);
+    let uploading = then(operational(), [read(0x1008, 0), Call::Slot]);
+    let ending = then(uploading.clone(), [segment(0), Call::Slot]);
     let no_index = "581 8 80 00 20 00 00 00 02 06";
     let blank = "581 8 80 04 60 00 24 00 00 08";
+    let full = "581 8 00 48 61 79 62 6C 65 61";
+    let last = "581 8 19 74 65 72 00 00 00 00";
     vec![
         asked("read-6004", 0x6004, 0, "581 8 43 04 60 00 05 10 01 00"),
         asked("read-1000", 0x1000, 0, "581 8 43 00 10 00 96 01 08 00"),
         asked("read-1018-4", 0x1018, 4, "581 8 43 18 10 04 04 00 00 00"),
         asked("read-no-index", 0x2000, 0, no_index),
         case("read-blank", missing, read(0x6004, 0), blank),
+        asked("read-1008", 0x1008, 0, "581 8 41 08 10 00 0A 00 00 00"),
+        case("read-segment", uploading, segment(0), full),
+        case("read-last-segment", ending, segment(1), last),
     ]
 }
 

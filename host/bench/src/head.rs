@@ -1,13 +1,15 @@
 //! What both heads offer to the benchmark.
 
-use reference::{Frame, Identity, Received};
+use reference::{Frame, Identity, Name, Received};
 
 pub const NODE: u8 = 1;
+/// The device name has a full segment and a last one.
 pub const IDENTITY: Identity = Identity {
     vendor: 1,
     product: 2,
     revision: 3,
     serial: 4,
+    names: [Name::of(b"Haybleater"), Name::of(b"1"), Name::of(b"1")],
 };
 
 pub trait Head: Copy {

@@ -4,17 +4,19 @@ use std::mem::MaybeUninit;
 
 use crate::head::{self, IDENTITY, NODE};
 
+/// The words of the three names.
+const NAMES: usize = 25;
 /// A head has at most this many words.
 const WORDS: usize = if cfg!(feature = "padded") {
-    64 + 80
+    64 + NAMES + 80
 } else {
-    64
+    64 + NAMES
 };
 /// A head has at most this many bytes.
 pub const LARGEST: usize = WORDS * size_of::<u32>();
-/// Words of memory that are lent for a head: one more than it may have. So of many heads side by side each
-/// starts at another place in its cache line.
-const ROOM: usize = WORDS + 1;
+/// Words of memory that are lent for a head: whole cache lines, and one word more. So of many heads side by
+/// side each starts at another place in its cache line.
+const ROOM: usize = WORDS.next_multiple_of(16) + 1;
 
 #[derive(Clone, Copy)]
 #[repr(C)]
@@ -24,11 +26,19 @@ pub struct Head {
 
 #[derive(Clone, Copy)]
 #[repr(C)]
+struct Name {
+    bytes: [u8; 32],
+    length: u8,
+}
+
+#[derive(Clone, Copy)]
+#[repr(C)]
 struct Identity {
     vendor: u32,
     product: u32,
     revision: u32,
     serial: u32,
+    names: [Name; 3],
 }
 
 #[derive(Clone, Copy)]
@@ -68,21 +78,10 @@ pub struct Outgoing {
 extern "C" {
     #[cfg(target_arch = "x86_64")]
     fn haybleater_power_up(head: *mut u32, setup: Setup) -> u8;
-    /// The compiled function takes the setup on the stack, as C does on x86-64: behind the eight arguments in registers.
+    /// The compiled `haybleater_power_up` takes the setup on the stack, as C does on x86-64 only. So
+    /// host/bench/module adds this export to the object.
     #[cfg(not(target_arch = "x86_64"))]
-    fn haybleater_power_up(
-        head: *mut u32,
-        x1: u64,
-        x2: u64,
-        x3: u64,
-        x4: u64,
-        x5: u64,
-        x6: u64,
-        x7: u64,
-        first: u64,
-        second: u64,
-        third: u64,
-    ) -> u8;
+    fn haybleater_at_power_up(head: *mut u32, setup: *const Setup, refusal: *mut u8);
     fn haybleater_receive(head: *mut u32, frame: Received) -> u8;
     fn haybleater_tick(head: *mut u32);
     fn haybleater_sample(head: *mut u32, raw: u32) -> u8;
@@ -97,8 +96,20 @@ const SETUP: Setup = Setup {
         product: IDENTITY.product,
         revision: IDENTITY.revision,
         serial: IDENTITY.serial,
+        names: [
+            given(IDENTITY.names[0]),
+            given(IDENTITY.names[1]),
+            given(IDENTITY.names[2]),
+        ],
     },
 };
+
+const fn given(name: reference::Name) -> Name {
+    Name {
+        bytes: name.bytes,
+        length: name.length,
+    }
+}
 
 /// # Safety
 /// The memory is as large as a head.
@@ -111,10 +122,8 @@ unsafe fn power_up(memory: *mut u32) {
 /// The memory is as large as a head.
 #[cfg(not(target_arch = "x86_64"))]
 unsafe fn power_up(memory: *mut u32) {
-    let Identity { vendor, product, revision, serial } = SETUP.identity;
-    let pair = |low: u32, high: u32| u64::from(low) | u64::from(high) << 32;
-    let [first, second, third] = [pair(SETUP.node.into(), vendor), pair(product, revision), serial.into()];
-    haybleater_power_up(memory, 0, 0, 0, 0, 0, 0, 0, first, second, third);
+    let mut refusal = 0;
+    haybleater_at_power_up(memory, &SETUP, &mut refusal);
 }
 
 /// The bytes of a head: up to the last word that power-up writes, whatever was in the memory before.
