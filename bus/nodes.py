@@ -12,7 +12,8 @@ NMT_COMMAND = 0x000
 NMT_LENGTH = 2
 REQUEST = 0x600
 REPLY = 0x580
-ABORT = 4
+# Top bits of byte 0: a write, or a read and its reply. Other frames have no entry's value there: a segment has bytes of a name.
+WITH_VALUE = (1, 2)
 # The entries that have an identifier as their value, as the bytes 1 to 3 of a request and a reply: 1014-0, 1800-1, 1801-1.
 WITH_IDENTIFIER = (b"\x14\x10\x00", b"\x00\x18\x01", b"\x01\x18\x01")
 
@@ -55,6 +56,6 @@ def as_node_1(frame, node):
     data = frame.data
     if frame.identifier == NMT_COMMAND and len(data) == NMT_LENGTH:
         data = bytes([data[0], number(data[1], node)])
-    if frame.identifier in (REQUEST + node, REPLY + node) and data[1:4] in WITH_IDENTIFIER and data[0] >> 5 != ABORT:
+    if frame.identifier in (REQUEST + node, REPLY + node) and data[1:4] in WITH_IDENTIFIER and data[0] >> 5 in WITH_VALUE:
         data = value(data, node)
     return frame._replace(identifier=identifier(frame.identifier, node), data=data)

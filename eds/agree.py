@@ -1,12 +1,12 @@
 """Where the data sheet and the head differ: each function yields one line for each difference."""
 import re
 
-from head import VALUE, WRITTEN, abort_code
-from sheet import ARRAY, VAR, Fault, at_node
+from head import VALUE, WRITE, WRITTEN, abort_code, upload
+from sheet import ARRAY, NAME, VAR, Fault, at_node
 
 NODES = (1, 127)
 
-NO_SUCH_INDEX, NO_SUCH_SUB_INDEX = 0x06020000, 0x06090011
+UNKNOWN_COMMAND, NO_SUCH_INDEX, NO_SUCH_SUB_INDEX = 0x05040001, 0x06020000, 0x06090011
 READ_ONLY, BAD_VALUE, BAD_SIGNATURE = 0x06010002, 0x06090030, 0x08000020
 BAD_STATE, BLANK = 0x08000022, 0x08000024
 ABORT_CODES = {NO_SUCH_INDEX, NO_SUCH_SUB_INDEX, READ_ONLY, BAD_VALUE, BAD_SIGNATURE, BAD_STATE, BLANK}
@@ -38,7 +38,11 @@ READ_PRESET, READ_POSITION, READ_OFFSET = ("read", 0x6003_00), ("read", 0x6004_0
 TAPE, DEFAULT_PRESET = ("sample", 20_000), ("write", 0x6003_00, 4, 0)
 FACTORY_RANGE = ("write", 0x6002_00, 4, 1_048_576)
 
-TABLE_LINE = re.compile(r" +entry 0x([0-9A-F]{4}) ([0-9]+) (U8|U16|U32|S32) (ro|rw) .*")
+TABLE_LINE = re.compile(r" +entry 0x([0-9A-F]{4}) ([0-9]+) (U8|U16|U32|S32|name) (ro|rw) .*")
+
+# The names: CiA 301 calls their access const, which the proved table and the head do not tell from ro
+CONSTANT = {0x1008_00, 0x1009_00, 0x100A_00}
+TRANSFERS = "The names are read by segmented upload, all other entries by expedited upload. Every write is an expedited download."
 
 
 def table(entries, specification):
@@ -57,7 +61,7 @@ def table(entries, specification):
         if key in proved:
             yield f"{name(key)} stands twice in the proved table"
         proved[key] = (found[3], found[4])
-    listed = {entry.key: (entry.type, entry.access) for entry in entries}
+    listed = {entry.key: (entry.type, "ro" if entry.access == "const" else entry.access) for entry in entries}
     for key in sorted(proved.keys() | listed.keys()):
         if proved.get(key) != listed.get(key):
             yield f"{name(key)}: {words(listed.get(key))} in the data sheet, {words(proved.get(key))} in the proved table"
@@ -101,7 +105,8 @@ def shapes(objects):
 
 
 def reads(entries, head, twin, node):
-    """Type and default are what a fresh head answers. What is blank, or differs in a twin of another serial number, has no default."""
+    """Type and default of a number are what a fresh head answers. What is blank, or differs in a twin of another serial number, has no default."""
+    entries = [entry for entry in entries if entry.type != NAME]
     keys = [entry.key for entry in entries]
     for entry, reply, other in zip(entries, head.reads(node, keys).values(), twin.reads(node, keys).values()):
         code = abort_code(reply)
@@ -116,12 +121,45 @@ def reads(entries, head, twin, node):
             yield f"{name(entry.key)}: DefaultValue is not what node {node} answers, {reply.hex(' ')}"
 
 
+def names(entries, head, twin, node):
+    """A name is read in segments, as it was given at power-up. It differs in the twin, so it has no default."""
+    for entry in (entry for entry in entries if entry.type == NAME):
+        if entry.default is not None:
+            yield f"{name(entry.key)} has no DefaultValue: the device gives it at power-up"
+        for each in (head, twin):
+            due = upload(entry.key, each.names.get(entry.key, b""))
+            steps = tuple(step for step, _ in due)
+            replies = each.replies(node, [steps[:count] for count in range(1, len(steps) + 1)])
+            for (step, answer), reply in zip(due, replies):
+                if reply != answer:
+                    what = "a read" if step[0] == "read" else f"the request for segment {step[2]}"
+                    yield f"{name(entry.key)}: node {node} answers {what} with {reply.hex(' ')}, not with {answer.hex(' ')}"
+
+
+def transfers(entries, comments, head, node):
+    """The comments say how entries are read and written; a write in segments is refused, whatever the entry."""
+    if TRANSFERS not in comments.sentences:
+        yield f"[Comments] do not say: {TRANSFERS}"
+    for entry, reply in zip(entries, head.replies(node, [(("begin", entry.key, entry.width),) for entry in entries])):
+        if abort_code(reply) != UNKNOWN_COMMAND:
+            yield f"{name(entry.key)}: node {node} answers a write in segments with {reply.hex(' ')}"
+
+
 def access(entries, head, node):
-    """A write is refused as one to a ro entry exactly if the data sheet says so."""
-    trials = [(write(entry, 0),) for entry in entries]
-    for entry, reply in zip(entries, head.replies(node, trials)):
-        if (abort_code(reply) == READ_ONLY) != (entry.access == "ro"):
+    """A write is refused as one to a ro entry exactly if the data sheet says so; one to a name in each length."""
+    writes = [("write", entry.key, width, 0) for entry in entries for width in ([entry.width] if entry.width else WRITE)]
+    by_key = {entry.key: entry for entry in entries}
+    for step, reply in zip(writes, head.replies(node, [(step,) for step in writes])):
+        entry = by_key[step[1]]
+        if (abort_code(reply) == READ_ONLY) != (entry.access != "rw"):
             yield f"{name(entry.key)}: AccessType {entry.access}, and node {node} answers a write with {reply.hex(' ')}"
+
+
+def constants(entries):
+    """The names are const, as CiA 301 has them, and nothing else is."""
+    for entry in entries:
+        if (entry.access == "const") != (entry.key in CONSTANT):
+            yield f"{name(entry.key)}: AccessType is const of {', '.join(map(name, sorted(CONSTANT)))} alone"
 
 
 def flags(entries):
@@ -258,7 +296,7 @@ def mapping(entries, head, node):
 
 
 def differences(objects, comments, head, twin, specification):
-    """All of them. The twin is a head that differs in its serial number."""
+    """All of them. The twin is a head that differs in its serial number and its names."""
     entries = [entry for _, each in objects.values() for entry in each]
     strangers = comments.names() - {entry.section for entry in entries if entry.access == "rw"}
     if strangers:
@@ -266,12 +304,15 @@ def differences(objects, comments, head, twin, specification):
     yield from table(entries, specification)
     yield from shapes(objects)
     yield from flags(entries)
+    yield from constants(entries)
     yield from existence(objects, head)
     faults = list(limits(entries, comments))
     yield from faults
-    writable = [] if faults else [entry for entry in entries if entry.access == "rw"]
+    writable = [] if faults else [entry for entry in entries if entry.access == "rw" and entry.type != NAME]
     for node in NODES:
         yield from reads(entries, head, twin, node)
+        yield from names(entries, head, twin, node)
+        yield from transfers(entries, comments, head, node)
         yield from access(entries, head, node)
         yield from mapping(entries, head, node)
         yield from facts(comments, head, node)

@@ -18,14 +18,23 @@ WRITE = {1: 0x2F, 2: 0x2B, 4: 0x23}
 VALUE = {0x4F: 1, 0x4B: 2, 0x43: 4}
 WRITTEN, ABORT = 0x60, 0x80
 
+# First byte of a transfer in segments: of the request that begins a write, of the reply that begins a read, and of a request for a segment
+BEGIN_WRITE, SIZE, SEGMENT = 0x21, 0x41, 0x60
+TOGGLE = 0x10
+SEGMENT_BYTES = 7
+# The bytes of a name that one call of the driver brings
+HALF = 16
+
 
 class Stopped(Exception):
     """The head cannot be asked, in one line."""
 
 
-def power_up(node, identity):
-    """The call that makes a head."""
-    return struct.pack("<cB2x4I4x", b"P", node, *identity)
+def power_up(node, identity, names):
+    """The calls that make a head: its names, each in two halves, then the power-up."""
+    halves = [struct.pack("<c3B4x16s", b"N", which, half, len(name), name[half * HALF:][:HALF])
+              for which, name in enumerate(names) for half in (0, 1)]
+    return [*halves, struct.pack("<cB2x4I4x", b"P", node, *identity)]
 
 
 def plain(which):
@@ -42,13 +51,32 @@ SLOT, KEEP, TAKE_BACK = plain(b"?"), plain(b"K"), plain(b"R")
 
 
 def step_call(node, step):
-    """The call of a step: ("read", key), ("write", key, width, value) or ("sample", raw)."""
+    """The call of a step: ("sample", raw), ("segment", key, number) of the transfer that runs, or one that names its entry."""
     what, *numbers = step
     if what == "sample":
         return struct.pack("<c3xI16x", b"S", *numbers)
-    key, width, value = numbers if what == "write" else (*numbers, 0, 0)
-    first = WRITE[width] if what == "write" else READ
+    if what == "segment":
+        return request(node, struct.pack("<B7x", SEGMENT | numbers[1] % 2 * TOGGLE))
+    first, key, value = entry_request(what, *numbers)
     return request(node, struct.pack("<BHBI", first, key >> 8, key & 0xFF, value))
+
+
+def entry_request(what, key, width=0, value=0):
+    """First byte, entry and number of ("read", key), ("write", key, width, value) or ("begin", key, width), a write in segments."""
+    if what == "begin":
+        return BEGIN_WRITE, key, width
+    return WRITE[width] if what == "write" else READ, key, value
+
+
+def upload(key, name):
+    """The steps that read a name, each with the reply that is due."""
+    steps = [(("read", key), struct.pack("<BHBI", SIZE, key >> 8, key & 0xFF, len(name)))]
+    for number, at in enumerate(range(0, len(name), SEGMENT_BYTES)):
+        part = name[at:at + SEGMENT_BYTES]
+        last = at + SEGMENT_BYTES >= len(name)
+        first = number % 2 * TOGGLE | (SEGMENT_BYTES - len(part)) << 1 | last
+        steps.append((("segment", key, number), struct.pack("<B7s", first, part)))
+    return steps
 
 
 def run(calls):
@@ -76,20 +104,21 @@ def abort_code(reply):
 
 
 class Head:
-    """Fresh heads of each node number with one identity."""
+    """Fresh heads of each node number with one identity and the names of some entries, by their keys."""
 
-    def __init__(self, identity):
+    def __init__(self, identity, names):
         self.identity = identity
+        self.names = names
         self.altered = ()
         self.known = {}
         self.scans = {}
 
     def wrong(self, pattern, instead):
         """A head that gives another reply to the steps that begin with the pattern."""
-        other = Head(self.identity)
+        other = Head(self.identity, self.names)
         other.altered = ((pattern, instead),)
         other.known = self.known
-        if pattern[0] == "write":
+        if pattern[0] != "read":
             other.scans = self.scans
         return other
 
@@ -103,7 +132,8 @@ class Head:
 
     def ask(self, node, trials):
         """The driver's reply to the last step of each trial."""
-        calls = [power_up(node, self.identity), SLOT, SLOT, SLOT, KEEP]
+        calls = [*power_up(node, self.identity, self.names.values()), SLOT, SLOT, SLOT, KEEP]
+        made = len(calls) - 1
         ends = []
         for trial in trials:
             calls.append(TAKE_BACK)
@@ -111,7 +141,7 @@ class Head:
                 calls += [step_call(node, step), SLOT]
             ends.append(len(calls) - 1)
         answers = run(calls)
-        booted(node, answers[1:4])
+        booted(node, answers[made - 3:made])
         return [sdo_reply(node, frame(answers[end])) for end in ends]
 
     def alter(self, step, reply):

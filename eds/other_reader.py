@@ -2,7 +2,7 @@
 import configparser
 import re
 
-VAR = 7
+VAR, VISIBLE_STRING = 7, 9
 INDEX = re.compile(r"^([0-9A-Fa-f]{4})$")
 SUB_INDEX = re.compile(r"^([0-9A-Fa-f]{4})[Ss]ub([0-9A-Fa-f]+)$")
 
@@ -26,10 +26,10 @@ def value(text, node):
 
 
 def variable(section, node):
-    """Name, type, access, default, limits, and whether it can be mapped."""
-    return (section["ParameterName"], int(section["DataType"], 0), section["AccessType"].lower(),
-            value(section.get("DefaultValue"), node), value(section.get("LowLimit"), node), value(section.get("HighLimit"), node),
-            bool(int(section.get("PDOMapping", "0"), 0)))
+    """Name, type, access, default, limits, and whether it can be mapped. The default of a string is its text."""
+    kind, default = int(section["DataType"], 0), section.get("DefaultValue")
+    return (section["ParameterName"], kind, section["AccessType"].lower(), default if kind == VISIBLE_STRING else value(default, node),
+            value(section.get("LowLimit"), node), value(section.get("HighLimit"), node), bool(int(section.get("PDOMapping", "0"), 0)))
 
 
 def dictionary(parser, node):

@@ -9,9 +9,10 @@ KEY = re.compile(r"([A-Za-z0-9_]+)=(\S.*\S|\S)")
 NUMBER = re.compile(r"0x[0-9A-F]+|0|[1-9][0-9]*")
 NODE_FORMULA = "$NODEID+"
 
-# ObjectType and DataType, CiA 301
+# ObjectType and DataType, CiA 301; a VISIBLE_STRING is a name in the proved table
 VAR, ARRAY, RECORD = 0x7, 0x8, 0x9
-TYPES = {0x0004: "S32", 0x0005: "U8", 0x0006: "U16", 0x0007: "U32"}
+NAME = "name"
+TYPES = {0x0004: "S32", 0x0005: "U8", 0x0006: "U16", 0x0007: "U32", 0x0009: NAME}
 WIDTHS = {"U8": 1, "U16": 2, "U32": 4, "S32": 4}
 
 MANDATORY = [0x1000, 0x1001, 0x1018]
@@ -44,8 +45,8 @@ class Entry:
 
     @property
     def width(self):
-        """The bytes of its type."""
-        return WIDTHS[self.type]
+        """The bytes of its type; 0 for a name, whose length is its own."""
+        return WIDTHS.get(self.type, 0)
 
 
 class Lines:
@@ -178,7 +179,7 @@ def entry(lines, index, sub, section):
         index, sub, section,
         title=lines.text(section, "ParameterName"),
         type=TYPES[one_of(TYPES, lines.number(section, "DataType"), f"[{section}] DataType")],
-        access=one_of(("ro", "rw"), lines.text(section, "AccessType"), f"[{section}] AccessType"),
+        access=one_of(("const", "ro", "rw"), lines.text(section, "AccessType"), f"[{section}] AccessType"),
         default=lines.text(section, "DefaultValue") if lines.has(section, "DefaultValue") else None,
         low=lines.number_if_any(section, "LowLimit"),
         high=lines.number_if_any(section, "HighLimit"),
