@@ -1,6 +1,6 @@
 -- The first byte of a segment by its bits, and a list in places by its front and its zeros. Assumes nothing.
 use Prim.Native.Nat.{ℕ, zero, suc, _+_, _*_, _-_, _/_, _%_, _<_, _≤_}
-use native.Mathlib.Nat.{mod-lt, zero-sub, sub-zero, suc-sub-suc}
+use native.Mathlib.Nat.{zero-sub, sub-zero, suc-sub-suc}
 use native.Mathlib.Omega.{arith}
 use mathlib.Core.Path.{_≡_, refl, ap}
 use mathlib.Core.Bool.{cond}
@@ -25,7 +25,7 @@ parts t u l a b c = record { top = omega arith; toggle = omega arith; unused = o
 
 pub command-parts : (l k : ℕ) → Parts (toggleOf k) (unused l k) (cond (isLast l k) 1 0) (commandOf l k)
 command-parts l k =
-    parts _ _ _ (mod-lt k (omega arith)) (omega arith) (by (λ (b : ℕ). b < 2) (isLast l k) (λ _. omega arith) (λ _. omega arith))
+    parts _ _ _ (omega arith) (omega arith) (by (λ (b : ℕ). b < 2) (isLast l k) (λ _. omega arith) (λ _. omega arith))
 
 pub last-bit : (l k : ℕ) → _≡_ {A = ℕ} (cond (isLast l k) 1 0) 1 ↔ l ≤ 7 * suc k
 last-bit l k =
