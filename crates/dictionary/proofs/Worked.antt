@@ -13,7 +13,6 @@ use Rattle.dictionary.specs.Reads.{shownAt}
 use Rattle.dictionary.specs.Writes.{written}
 use Rattle.dictionary.specs.Valid.{ValidIdentity, ValidDevice}
 use Rattle.dictionary.specs.Worked.{identity1, at, ready, ends, endEach, Worked}
-use Rattle.dictionary.proofs.Names.{arrays-are}
 use Rattle.dictionary.proofs.Laws.{laws}
 
 -- its names stand in arrays of 32 bytes, and have 1 to 32
@@ -26,7 +25,7 @@ named1 =
             product = omega arith;
             revision = omega arith;
             serial = omega arith;
-            arrays = λ k. arrays-are identity1 k (refl, refl, refl);
+            arrays = (refl, refl, refl);
           };
       named = refl;
     }

@@ -10,7 +10,7 @@ use Rattle.entries.specs.declared.Communication.{Communication}
 use Rattle.entries.specs.declared.Settings.{Settings}
 use Rattle.entries.specs.declared.Identity.{Identity}
 use Rattle.entries.specs.declared.Device.{Device}
-use Rattle.entries.specs.Identity.{nameOf, isNamed}
+use Rattle.entries.specs.Identity.{hasNames}
 use Rattle.dictionary.specs.Accepted.{emergencyIdentifier, pdoIdentifier, transmissionType}
 
 pub record ValidPdo (p : Pdo) : Type 0 where
@@ -46,12 +46,12 @@ pub record FitsIdentity (i : Identity) : Type 0 where
   pub product : i .product ≤ 0xFFFFFFFF
   pub revision : i .revision ≤ 0xFFFFFFFF
   pub serial : i .serial ≤ 0xFFFFFFFF
-  pub arrays : (k : ℕ) → length (nameOf i k .bytes) ≡ 32
+  pub arrays : (length (i .name .bytes) ≡ 32) × (length (i .hardware .bytes) ≡ 32) × (length (i .software .bytes) ≡ 32)
 
 -- 1008h, 1009h, 100Ah: strings of 1 to 32 bytes; another length is refused with 5
 pub record ValidIdentity (i : Identity) : Type 0 where
   pub fits : FitsIdentity i
-  pub named : isNamed i ≡ true
+  pub named : hasNames i ≡ true
 
 pub record ValidDevice (d : Device) : Type 0 where
   -- node number 1..127; another is refused with 4

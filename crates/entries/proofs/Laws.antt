@@ -16,4 +16,4 @@ unfolding table entries
 rising = refl
 
 pub laws : Laws
-laws = record { all-of-them = all-of-them; keys = λ p. refl; finds = finds; rising = rising }
+laws = record { all-of-them = all-of-them; keys = λ p. refl; finds = finds; names = λ i. (refl, refl, refl); rising = rising }

@@ -10,5 +10,5 @@ abbrev pub nameOf : Identity → ℕ → Name
 nameOf i k = cond (eqb k 1) (i .name) (cond (eqb k 2) (i .hardware) (i .software))
 
 -- each name has 1 to 32 bytes
-abbrev pub isNamed : Identity → Bool
-isNamed i = isName (i .name) && isName (i .hardware) && isName (i .software)
+abbrev pub hasNames : Identity → Bool
+hasNames i = isName (i .name) && isName (i .hardware) && isName (i .software)

@@ -7,6 +7,8 @@ use mathlib.Core.Path.{_≡_}
 use mathlib.Core.Logic.{_↔_}
 use mathlib.Core.Bool.{Bool, true, false, _&&_}
 use mathlib.Core.List.{List, [], _∷_, map}
+use Rattle.entries.specs.declared.Identity.{Identity}
+use Rattle.entries.specs.Identity.{nameOf}
 use Rattle.entries.specs.declared.table.Found.the-variants.{At, NoSubIndex, NoIndex}
 use Rattle.entries.specs.Table.{table, rowAt, index, sub, width, isRw, key, lookup}
 
@@ -89,5 +91,7 @@ pub record Laws : Type 0 where
   -- the number that names an entry elsewhere: 6003-0 is 0x6003_00
   pub keys : (p : ℕ) → key (rowAt p) ≡ index (rowAt p) * 256 + sub (rowAt p)
   pub finds : (i j : ℕ) → Finds i j
+  -- the names 1008h, 1009h and 100Ah, numbered 1 to 3
+  pub names : (i : Identity) → (nameOf i 1 ≡ i .name) × (nameOf i 2 ≡ i .hardware) × (nameOf i 3 ≡ i .software)
   -- in index order, so that each entry is there once
   pub rising : risesFrom 0 (map key table) ≡ true

@@ -4,7 +4,7 @@ use mathlib.Core.Path.{_≡_, sym, subst}
 use mathlib.Core.Bool.{true, false}
 use Rattle.cases.specs.Tests.{within}
 use Rattle.entries.specs.declared.Identity.{Identity}
-use Rattle.entries.specs.Identity.{isNamed}
+use Rattle.entries.specs.Identity.{hasNames}
 use Rattle.dictionary.specs.Valid.{FitsIdentity}
 use Rattle.parts.specs.declared.Answer.{Answer}
 use Rattle.promises.specs.States.{started}
@@ -17,10 +17,10 @@ module _ (n : ℕ) (i : Identity) where
   pub powers-up-not : within 1 127 n ≡ false → PowersUp n i (refusedWith 4)
   powers-up-not e = (rw e, valid-refused)
 
-  pub powers-up-unnamed : within 1 127 n ≡ true → isNamed i ≡ false → PowersUp n i (refusedWith 5)
+  pub powers-up-unnamed : within 1 127 n ≡ true → hasNames i ≡ false → PowersUp n i (refusedWith 5)
   powers-up-unnamed e u = (rw (e, u), valid-refused)
 
-  pub powers-up : within 1 127 n ≡ true → isNamed i ≡ true → FitsIdentity i → PowersUp n i (answered 0 (started n i))
+  pub powers-up : within 1 127 n ≡ true → hasNames i ≡ true → FitsIdentity i → PowersUp n i (answered 0 (started n i))
   powers-up e u f =
       let so : answered 0 (started n i) ≡ poweredUp n i = rw (e, u) in
       (so, subst (λ (b : Answer). Valid (b .head)) (sym so) (valid-powered (record { number = n; identity = i; fits = f })))

@@ -50,9 +50,9 @@ pub extern "C" fn haybleater_receive(head: &mut Head, frame: Received) -> u8
         head.line,
         frame,
     );
-    head.transfer = heard.transfer;
     match heard.way {
         hear::REPLIES => {
+            head.transfer = heard.transfer;
             let left = effect::reply(head.line, heard.reply);
             head.core.reply = left.reply;
             head.line = left.line;
@@ -69,6 +69,7 @@ pub extern "C" fn haybleater_receive(head: &mut Head, frame: Received) -> u8
             head.line = left.line;
         }
         hear::CONFIGURES => {
+            head.transfer = heard.transfer;
             let left = effect::configure(
                 head.core.nmt,
                 head.core.device.settings.communication,
@@ -86,6 +87,7 @@ pub extern "C" fn haybleater_receive(head: &mut Head, frame: Received) -> u8
             head.line = left.line;
         }
         hear::SCALES => {
+            head.transfer = heard.transfer;
             let left = effect::scale(
                 head.core.device.settings.profile,
                 head.core.device.reading.raw,
@@ -99,6 +101,7 @@ pub extern "C" fn haybleater_receive(head: &mut Head, frame: Received) -> u8
             head.line = left.line;
         }
         hear::ENTERS => {
+            head.transfer = heard.transfer;
             let left = entry::enter(
                 head.core.nmt,
                 head.core.device.settings.communication,
@@ -113,6 +116,7 @@ pub extern "C" fn haybleater_receive(head: &mut Head, frame: Received) -> u8
             head.line = left.line;
         }
         hear::RESETS => {
+            head.transfer = heard.transfer;
             let left = entry::restart(head.core.device.settings, head.core.device.saved, heard.all);
             head.core.device.settings = left.settings;
             head.core.nmt = left.nmt;
@@ -121,6 +125,7 @@ pub extern "C" fn haybleater_receive(head: &mut Head, frame: Received) -> u8
             head.line = left.line;
         }
         hear::SAVES => {
+            head.transfer = heard.transfer;
             let left = effect::save(
                 head.core.device.node,
                 head.core.device.settings,
@@ -133,10 +138,14 @@ pub extern "C" fn haybleater_receive(head: &mut Head, frame: Received) -> u8
             head.line = left.line;
         }
         hear::EMPTIES => {
+            head.transfer = heard.transfer;
             let left = effect::empty(head.line, heard.reply);
             head.core.device.errors = left.errors;
             head.core.reply = left.reply;
             head.line = left.line;
+        }
+        hear::ENDS => {
+            head.transfer = heard.transfer;
         }
         _ => {}
     }

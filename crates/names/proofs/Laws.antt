@@ -53,4 +53,5 @@ laws =
       head = refl;
       eight = (refl, refl);
       fourteen = (refl, refl);
+      longest = (refl, refl);
     }

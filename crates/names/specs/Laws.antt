@@ -43,6 +43,12 @@ pub record Segment (n : Name) (k : ℕ) : Type 0 where
   pub ends : n .length ≤ 7 * suc k → contents (segmentOf n k) ≡ drop (7 * k) (text n)
   pub goes-on : contents (segmentOf n k) ++ drop (7 * suc k) (text n) ≡ drop (7 * k) (text n)
 
+-- the bytes 1 to 32
+abbrev pub counted : List ℕ
+counted =
+    1 ∷ 2 ∷ 3 ∷ 4 ∷ 5 ∷ 6 ∷ 7 ∷ 8 ∷ 9 ∷ 10 ∷ 11 ∷ 12 ∷ 13 ∷ 14 ∷ 15 ∷ 16
+    ∷ 17 ∷ 18 ∷ 19 ∷ 20 ∷ 21 ∷ 22 ∷ 23 ∷ 24 ∷ 25 ∷ 26 ∷ 27 ∷ 28 ∷ 29 ∷ 30 ∷ 31 ∷ 32 ∷ []
+
 pub record Laws : Type 0 where
   -- strings of 1 to 32 bytes
   pub lengths : (n : Name) → (isName n ≡ true) ↔ ((1 ≤ n .length) × (n .length ≤ 32))
@@ -60,8 +66,13 @@ pub record Laws : Type 0 where
   pub names : (take 3 (drop 1 (naming 1)) ≡ 0x08 ∷ 0x10 ∷ 0x00 ∷ [])
       × (take 3 (drop 1 (naming 2)) ≡ 0x09 ∷ 0x10 ∷ 0x00 ∷ [])
       × (take 3 (drop 1 (naming 3)) ≡ 0x0A ∷ 0x10 ∷ 0x00 ∷ [])
-  -- HEAD: one segment of four bytes; a name of 8: a full segment and one byte; a name of 14: two full segments
+  -- HEAD: one segment of four bytes
   pub head : segmentOf (named (0x48 ∷ 0x45 ∷ 0x41 ∷ 0x44 ∷ []) 4) 0 ≡ 0x07 ∷ 0x48 ∷ 0x45 ∷ 0x41 ∷ 0x44 ∷ 0 ∷ 0 ∷ 0 ∷ []
-  pub eight : (segmentOf (named (1 ∷ 2 ∷ 3 ∷ 4 ∷ 5 ∷ 6 ∷ 7 ∷ 8 ∷ []) 8) 0 ≡ 0x00 ∷ 1 ∷ 2 ∷ 3 ∷ 4 ∷ 5 ∷ 6 ∷ 7 ∷ [])
-      × (segmentOf (named (1 ∷ 2 ∷ 3 ∷ 4 ∷ 5 ∷ 6 ∷ 7 ∷ 8 ∷ []) 8) 1 ≡ 0x1D ∷ 8 ∷ 0 ∷ 0 ∷ 0 ∷ 0 ∷ 0 ∷ 0 ∷ [])
-  pub fourteen : (segmentOf (named [] 14) 0 ≡ replicate 8 0) × (segmentOf (named [] 14) 1 ≡ 0x11 ∷ replicate 7 0)
+  -- a name of 8: a full segment and one byte; of 14: two full segments
+  pub eight : (segmentOf (named counted 8) 0 ≡ 0x00 ∷ 1 ∷ 2 ∷ 3 ∷ 4 ∷ 5 ∷ 6 ∷ 7 ∷ [])
+      × (segmentOf (named counted 8) 1 ≡ 0x1D ∷ 8 ∷ 0 ∷ 0 ∷ 0 ∷ 0 ∷ 0 ∷ 0 ∷ [])
+  pub fourteen : (segmentOf (named counted 14) 0 ≡ 0x00 ∷ 1 ∷ 2 ∷ 3 ∷ 4 ∷ 5 ∷ 6 ∷ 7 ∷ [])
+      × (segmentOf (named counted 14) 1 ≡ 0x11 ∷ 8 ∷ 9 ∷ 10 ∷ 11 ∷ 12 ∷ 13 ∷ 14 ∷ [])
+  -- the longest name: four full segments, and four bytes in the fifth
+  pub longest : (segmentOf (named counted 32) 3 ≡ 0x10 ∷ 22 ∷ 23 ∷ 24 ∷ 25 ∷ 26 ∷ 27 ∷ 28 ∷ [])
+      × (segmentOf (named counted 32) 4 ≡ 0x07 ∷ 29 ∷ 30 ∷ 31 ∷ 32 ∷ 0 ∷ 0 ∷ 0 ∷ [])

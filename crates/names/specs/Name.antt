@@ -7,7 +7,7 @@ use Rattle.cases.specs.Padded.{pad}
 use Rattle.cases.specs.Tests.{within}
 use Rattle.names.specs.declared.Name.{Name}
 
--- a name length out of range is refused
+-- 1 to 32 bytes; another length is refused with 5
 abbrev pub isName : Name → Bool
 isName n = within 1 32 (n .length)
 
@@ -15,7 +15,7 @@ isName n = within 1 32 (n .length)
 abbrev pub text : Name → List ℕ
 text n = take (n .length) (n .bytes)
 
--- the name of these bytes
+-- the name of this length whose array begins with these bytes; the rest is 0
 abbrev pub named : List ℕ → ℕ → Name
 named bytes length = record { bytes = pad 32 bytes; length = length }
 

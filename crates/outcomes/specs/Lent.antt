@@ -17,7 +17,7 @@ pub record Left (h : Head) (c : Call) (h′ : Head) : Type 0 where
   pub reachable : Reachable h′
 
 pub record Lent : Type 0 where
-  -- 4 or 0 (`gives-4` and `takes-node` of demand 1)
+  -- 4, 5 or 0 (`gives-4`, `gives-5` and `takes-node` of demand 1)
   pub powers-up : (p : PowerUp) (r : ℕ) (h : Head) → PowersUp (p .number) (p .identity) (answered r h)
       → (r ≡ poweredUp (p .number) (p .identity) .refusal) × (h ≡ powered p) × Reachable h
   pub receives : (f : Received) (r : ℕ) (h h′ : Head) → Reachable h → Receives h f (answered r h′)

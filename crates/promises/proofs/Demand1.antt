@@ -16,9 +16,8 @@ use Rattle.names.specs.declared.Transfer.{Transfer}
 use Rattle.names.specs.Name.{isName}
 use Rattle.names.specs.Transfer.{noTransfer}
 use Rattle.entries.specs.declared.Identity.{Identity}
-use Rattle.entries.specs.Identity.{isNamed}
+use Rattle.entries.specs.Identity.{hasNames}
 use Rattle.dictionary.specs.Valid.{FitsIdentity}
-use Rattle.dictionary.proofs.Names.{arrays-are}
 use Rattle.sdo.specs.Reply.{replies}
 use Rattle.sdo.specs.Request.{aborting}
 use Rattle.sdo.specs.Service.{answer}
@@ -96,7 +95,7 @@ not-fails false = (λ e. true-false e, λ e. true-false (sym e))
 node-fails : (n : ℕ) → (not (within 1 127 n) ≡ true) ↔ BadNode n
 node-fails n = ↔-then (not-tests (within 1 127 n)) (↔-then (↔-not (within 1 127 n) (node-tests n)) (bad-node n))
 
-names-test : (i : Identity) → (isNamed i ≡ true) ↔ NamesFit i
+names-test : (i : Identity) → (hasNames i ≡ true) ↔ NamesFit i
 names-test i = (
   λ e.
       let u = both (isName (i .name) && isName (i .hardware)) (isName (i .software)) e in
@@ -173,7 +172,7 @@ demand1 =
             product = omega (arith, b);
             revision = omega (arith, c);
             serial = omega (arith, d);
-            arrays = λ k. arrays-are i k (x, y, z);
+            arrays = (x, y, z);
           }
           in
           (record { number = n; identity = i; fits = fits }, refl, refl);
@@ -197,15 +196,15 @@ demand1 =
       takes-missing = λ h. refl;
       gives-4 =
           λ n i. rw (power-refusal n i)
-          (↔-then (first-passes 4 5 0 refl refl refl (not (within 1 127 n)) (not (isNamed i))) (node-fails n));
+          (↔-then (first-passes 4 5 0 refl refl refl (not (within 1 127 n)) (not (hasNames i))) (node-fails n));
       gives-5 =
           λ n i. rw (power-refusal n i)
-          (↔-then (second-passes 4 5 0 refl refl refl (not (within 1 127 n)) (not (isNamed i)))
-          (↔-both (↔-not (not (within 1 127 n)) (node-fails n)) (↔-then (not-tests (isNamed i)) (↔-not (isNamed i) (names-test i)))));
+          (↔-then (second-passes 4 5 0 refl refl refl (not (within 1 127 n)) (not (hasNames i)))
+          (↔-both (↔-not (not (within 1 127 n)) (node-fails n)) (↔-then (not-tests (hasNames i)) (↔-not (hasNames i) (names-test i)))));
       takes-node =
           λ n i. rw (power-refusal n i)
-          (↔-then (neither-passes 4 5 0 refl refl refl (not (within 1 127 n)) (not (isNamed i)))
-          (↔-both (↔-then (not-fails (within 1 127 n)) (node-tests n)) (↔-then (not-fails (isNamed i)) (names-test i))));
+          (↔-then (neither-passes 4 5 0 refl refl refl (not (within 1 127 n)) (not (hasNames i)))
+          (↔-both (↔-then (not-fails (within 1 127 n)) (node-tests n)) (↔-then (not-fails (hasNames i)) (names-test i))));
       frame-refused = frame-refused;
       sample-refused = sample-refused;
       node-refused = node-refused;

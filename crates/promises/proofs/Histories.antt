@@ -6,8 +6,7 @@ use mathlib.Core.Path.{_≡_, refl}
 use borrow.Author.Tests.{leb-true, not-false}
 use Rattle.cases.proofs.Cases.{by, both}
 use Rattle.entries.specs.declared.Identity.{Identity}
-use Rattle.entries.specs.Identity.{isNamed}
-use Rattle.dictionary.proofs.Names.{arrays-are}
+use Rattle.entries.specs.Identity.{hasNames}
 use Rattle.cases.specs.Tests.{within}
 use mathlib.Core.Bool.{not}
 use mathlib.Core.List.{List, [], _∷_, _++_}
@@ -31,7 +30,7 @@ valid-after h (c ∷ cs) v = valid-after (step h c) cs (valid-step h c v)
 pub at-power-up {ℓ} : (P : Head → Type ℓ) → ((n : ℕ) (i : Identity) → P (started n i)) → (p : PowerUp) → P (powered p)
 at-power-up P s p =
     by (λ (a : Answer). P (a .head)) (not (within 1 127 (p .number))) (λ _. s 1 noIdentity)
-    (λ _. by (λ (a : Answer). P (a .head)) (not (isNamed (p .identity))) (λ _. s 1 noIdentity) (λ _. s (p .number) (p .identity)))
+    (λ _. by (λ (a : Answer). P (a .head)) (not (hasNames (p .identity))) (λ _. s 1 noIdentity) (λ _. s (p .number) (p .identity)))
 
 -- a head whose power-up is refused
 pub valid-refused : Valid (started 1 noIdentity)
@@ -43,7 +42,7 @@ valid-refused =
         product = least;
         revision = least;
         serial = least;
-        arrays = λ k. arrays-are noIdentity k (refl, refl, refl);
+        arrays = (refl, refl, refl);
       };
       named = refl;
     })
@@ -56,7 +55,7 @@ valid-powered p =
     let n = p .number in
     let i = p .identity in
     by (λ (a : Answer). Valid (a .head)) (not (within 1 127 n)) (λ _. valid-refused)
-    (λ e. by (λ (a : Answer). Valid (a .head)) (not (isNamed i)) (λ _. valid-refused)
+    (λ e. by (λ (a : Answer). Valid (a .head)) (not (hasNames i)) (λ _. valid-refused)
     (λ u. let bounds = both (leb 1 n) (leb n 127) (not-false _ e) in
     valid-started n i (leb-true _ _ (bounds .0)) (leb-true _ _ (bounds .1)) (record { fits = p .fits; named = not-false _ u })))
 

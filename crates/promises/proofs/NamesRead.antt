@@ -23,6 +23,7 @@ use Rattle.names.specs.Laws as names
 use Rattle.names.proofs.Laws.{laws as nameLaws}
 use Rattle.entries.specs.declared.Identity.{Identity}
 use Rattle.entries.specs.Identity.{nameOf}
+use Rattle.dictionary.proofs.Names.{arrays-are}
 use Rattle.sdo.specs.Request.{aborting}
 use Rattle.sdo.specs.Exactly.{Reads}
 use Rattle.sdo.specs.UploadLaws.{AsksName, Runs}
@@ -37,7 +38,7 @@ use Rattle.promises.specs.Service.{replyFrame, sendsReply}
 use Rattle.promises.specs.Gap.{nodeOf}
 use Rattle.promises.specs.Codes.{All}
 use Rattle.promises.specs.Transfers.{its, Between, InTransfer}
-use Rattle.promises.specs.NamesRead.{Among, Exchange, Segment, Receives, last, more, Asks, Meanwhile, given, NamesRead}
+use Rattle.promises.specs.NamesRead.{Among, Exchange, SegmentExchange, Receives, last, more, Asks, Meanwhile, given, NamesRead}
 use Rattle.promises.proofs.Valid.{valid-step}
 use Rattle.promises.proofs.Histories.{valid-after, valid-powered}
 use Rattle.promises.proofs.SameNode.{node-step, node-after, node-powered}
@@ -105,7 +106,7 @@ same-name : (h : Head) → Valid h → (cs : List Call) (j : ℕ) → its (after
 same-name h v cs j = ap (λ (i : Identity). nameOf i j) (identity-after cs h v)
 
 module _ {n j k : ℕ} {name : Name} {h : Head} {f : Received} {cs : List Call} {reply : List ℕ} (a : At n j name h k)
-    (s : Segment n k h f cs reply) where
+    (s : SegmentExchange n k h f cs reply) where
   laws : names.Segment name k
   laws = nameLaws .segments name k (a .sending)
 
@@ -197,7 +198,7 @@ module _ (p : PowerUp) (before : List Call) (k : ℕ) (f : Received) (cs : List 
   is-given = ap (λ (i : Identity). nameOf i k) (same-identity p before)
 
   array : length (given p k .bytes) ≡ 32
-  array = ap (λ (m : Name). length (m .bytes)) (sym is-given) ∙ v .device .identity .fits .arrays k
+  array = ap (λ (m : Name). length (m .bytes)) (sym is-given) ∙ arrays-are (h .core .device .identity) k (v .device .identity .fits .arrays)
 
   bounds : (1 ≤ given p k .length) × (given p k .length ≤ 32)
   bounds = rw is-given at (name-long h v k)
@@ -266,7 +267,7 @@ module _ (n j : ℕ) (name : Name) (request : ℕ → Received) (between : ℕ �
     unaborted : aborting (request k .bytes) ≡ false
     unaborted = no-abort (request k) 3 refl (asks k .asks)
 
-    segment : Segment n k h (request k) (between k) (step h (receive (request k)) .core .reply)
+    segment : SegmentExchange n k h (request k) (between k) (step h (receive (request k)) .core .reply)
     segment =
         record {
           exchange = arrives n h (r .at .valid) (r .at .node-is) (request k) requests unaborted (between k) (meanwhile k);

@@ -12,7 +12,7 @@ use Rattle.cases.proofs.Cases.{test, true-false}
 use Rattle.can.specs.declared.Received.{Received}
 use Rattle.can.specs.Frame.{refusalOf}
 use Rattle.entries.specs.declared.Identity.{Identity}
-use Rattle.entries.specs.Identity.{isNamed}
+use Rattle.entries.specs.Identity.{hasNames}
 use Rattle.parts.specs.declared.Head.{Head}
 use Rattle.parts.specs.declared.Answer.{Answer}
 use Rattle.parts.specs.declared.Sensor.{Sensor}
@@ -54,11 +54,11 @@ chosen f true false a b c e = sym e
 chosen f false u a b c e = refl
 
 pub by-power-up : {B : Type 0} (f : Answer → B) (n : ℕ) (i : Identity) → f (refusedWith 4) ≡ f (refusedWith 5)
-    → f (poweredUp n i) ≡ cond (within 1 127 n && isNamed i) (f (answered 0 (started n i))) (f (refusedWith 4))
-by-power-up f n i e = chosen f (within 1 127 n) (isNamed i) (refusedWith 4) (refusedWith 5) (answered 0 (started n i)) e
+    → f (poweredUp n i) ≡ cond (within 1 127 n && hasNames i) (f (answered 0 (started n i))) (f (refusedWith 4))
+by-power-up f n i e = chosen f (within 1 127 n) (hasNames i) (refusedWith 4) (refusedWith 5) (answered 0 (started n i)) e
 
-pub power-refusal : (n : ℕ) (i : Identity) → poweredUp n i .refusal ≡ cond (not (within 1 127 n)) 4 (cond (not (isNamed i)) 5 0)
-power-refusal n i = numbers (not (within 1 127 n)) (not (isNamed i))
+pub power-refusal : (n : ℕ) (i : Identity) → poweredUp n i .refusal ≡ cond (not (within 1 127 n)) 4 (cond (not (hasNames i)) 5 0)
+power-refusal n i = numbers (not (within 1 127 n)) (not (hasNames i))
   where
     numbers : (t u : Bool)
         → firstOf ((t, refusedWith 4) ∷ (u, refusedWith 5) ∷ []) (answered 0 (started n i)) .refusal ≡ cond t 4 (cond u 5 0)
@@ -77,7 +77,7 @@ pub sample-refused : (h : Head) (s : Sensor) → (refusalBy (sample s) ≡ 0 →
 sample-refused h s n = test (badSample s) (λ e. step-nothing h (sample s) refl (no-sample s e) refl) (λ e. absurd (n (rw e)))
 
 pub node-refused : (n : ℕ) (i : Identity) → (poweredUp n i .refusal ≡ 0 → ⊥) → poweredUp n i .head ≡ started 1 noIdentity
-node-refused n i r = refused (within 1 127 n) (isNamed i) r
+node-refused n i r = refused (within 1 127 n) (hasNames i) r
   where
     refused : (t u : Bool) → let a = firstOf ((not t, refusedWith 4) ∷ (not u, refusedWith 5) ∷ []) (answered 0 (started n i)) in
         (a .refusal ≡ 0 → ⊥) → a .head ≡ started 1 noIdentity
@@ -87,5 +87,5 @@ node-refused n i r = refused (within 1 127 n) (isNamed i) r
 
 pub node-taken : (n : ℕ) (i : Identity) → poweredUp n i .refusal ≡ 0 → poweredUp n i .head ≡ started n i
 node-taken n i r =
-    let t = neither-passes 4 5 0 refl refl refl (not (within 1 127 n)) (not (isNamed i)) .0 (sym (power-refusal n i) ∙ r) in
+    let t = neither-passes 4 5 0 refl refl refl (not (within 1 127 n)) (not (hasNames i)) .0 (sym (power-refusal n i) ∙ r) in
     rw (t .0, t .1)

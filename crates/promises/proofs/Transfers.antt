@@ -6,14 +6,14 @@ use lib.Dec.{eqb, leb}
 use lib.ListN.{getD}
 use mathlib.Core.Path.{_≡_, refl, sym, ap, _∙_}
 use mathlib.Core.Logic.{_⊎_, inl, inr, ⊎-elim}
-use mathlib.Core.Bool.{Bool, true, false, _&&_, _||_}
+use mathlib.Core.Bool.{Bool, true, false, not, _&&_, _||_, and-false}
 use mathlib.Core.List.{List, [], _∷_}
-use borrow.Author.Tests.{eqb-true, eqb-false, eq-eqb, leb-true, leb-false}
-use Rattle.cases.proofs.Cases.{by, test, both, true-false}
+use borrow.Author.Tests.{eqb-true, eqb-false, eq-eqb, ne-eqb, leb-true, leb-false}
+use Rattle.cases.proofs.Cases.{by, test, both, neither, true-false}
 use Rattle.can.specs.declared.Received.{Received}
 use Rattle.names.specs.declared.Transfer.{Transfer}
 use Rattle.names.specs.Name.{isName}
-use Rattle.names.specs.Transfer.{starting}
+use Rattle.names.specs.Transfer.{starting as startingAt}
 use Rattle.names.proofs.Laws.{laws as nameLaws}
 use Rattle.entries.specs.declared.Device.{Device}
 use Rattle.entries.specs.declared.Identity.{Identity}
@@ -30,15 +30,17 @@ use Rattle.sdo.proofs.Laws.{First, first}
 use Rattle.sdo.proofs.UploadLaws.{uploads, listed}
 use Rattle.parts.specs.declared.Head.{Head}
 use Rattle.parts.specs.Put.{withTransfer}
-use Rattle.promises.specs.States.{CommandedState, operational, stopped, preOperational, isIn, isLive, node}
+use Rattle.promises.specs.States.{CommandedState, operational, stopped, preOperational, isIn, isInitialising, isLive, node}
 use Rattle.promises.specs.States.{Reset, Command, toEnter, toReset, command, byteOf}
 use Rattle.promises.specs.Acts.{Act, enter}
 use Rattle.promises.specs.Calls.{Call, receive, tick, sample, slot, commanded, isAsked, meant, endsTransfer, step}
 use Rattle.promises.specs.Valid.{Valid}
-use Rattle.promises.specs.Meant.{Commands, Requests}
+use Rattle.promises.specs.Meant.{Heard, Commands, Requests}
 use Rattle.promises.specs.Histories.{after, PowerUp, powered, Reachable}
 use Rattle.promises.specs.Service.{replyDue}
+use Rattle.promises.specs.Gap.{isCommand, stopsOrResets}
 use Rattle.promises.specs.Transfers.{over, its, Leaves, Harmless, Between, InTransfer, Transfers}
+use Rattle.promises.specs.Transfers.{Besides, a-slot, a-tick, a-sample, a-sync, starting, pausing, elsewhere}
 use Rattle.promises.proofs.Nothing.{step-but}
 use Rattle.promises.proofs.Hearing.{heard-by}
 use Rattle.promises.proofs.Valid.{valid-step}
@@ -47,7 +49,7 @@ use Rattle.promises.proofs.Meant.{core-step, commands}
 use Rattle.promises.proofs.Causes.{asked-by, asked-so}
 use Rattle.promises.proofs.Halts.{Halts, stopping, resetting, stays-live, halted}
 use Rattle.promises.proofs.Histories.{at-power-up, valid-powered, valid-reachable}
-use Rattle.promises.proofs.Service.{gets-what-is-due, busy}
+use Rattle.promises.proofs.Service.{gets-what-is-due}
 use Rattle.promises.proofs.Owed.{replied-waits}
 use Rattle.promises.proofs.Starts.{identity-after}
 
@@ -116,11 +118,25 @@ module _ (h : Head) where
       (λ _. by GoesBy (eqb b 0x81) (λ e. absurd (n .1 (eqb-true _ _ e)))
       (λ _. by GoesBy (eqb b 0x82) (λ e. absurd (n .2 (eqb-true _ _ e))) (λ _. refl)))))
 
+  -- a command to the head that is harmless has another first byte
+  spared : (f : Received) → Heard h f → f .identifier ≡ 0x000
+      → (eqb (f .length) 2 && (eqb (byteOf f 1) 0 || eqb (byteOf f 1) (node (h .core)))) ≡ true
+      → isCommand (node (h .core)) stopsOrResets (receive f) ≡ false
+      → let b = byteOf f 0 in (b ≡ 0x02 → ⊥) × (b ≡ 0x81 → ⊥) × (b ≡ 0x82 → ⊥)
+  spared f x i t c =
+      let plain = neither (f .extended || f .remote) (isInitialising (h .core)) (x .heard) .0 in
+      let u = both (eqb (f .length) 2) (eqb (byteOf f 1) 0 || eqb (byteOf f 1) (node (h .core))) t in
+      let b = byteOf f 0 in
+      let other : stopsOrResets b ≡ false = rw (plain, eq-eqb _ _ i, u .0, u .1) at c in
+      let s = neither (eqb b 0x02) (eqb b 0x81 || eqb b 0x82) other in
+      let r = neither (eqb b 0x81) (eqb b 0x82) (s .1) in
+      (eqb-false _ _ (s .0), eqb-false _ _ (r .0), eqb-false _ _ (r .1))
+
   pub goes-on : (f : Received) → Harmless (node (h .core)) f → Goes (meant h (receive f))
   goes-on f n =
       heard-by h f Goes refl
-      (λ _ i. by GoesBy (eqb (f .length) 2 && (eqb (byteOf f 1) 0 || eqb (byteOf f 1) (node (h .core))))
-      (λ _. by-byte (byteOf f 0) (n .1 i)) (λ _. refl))
+      (λ x i. by GoesBy (eqb (f .length) 2 && (eqb (byteOf f 1) 0 || eqb (byteOf f 1) (node (h .core))))
+      (λ t. by-byte (byteOf f 0) (spared f x i t (n .1))) (λ _. refl))
       (λ _ _. by Goes (leb (f .length) 1 && isIn operational (h .core)) (λ _. refl) (λ _. refl))
       (λ _ i. absurd (n .0 i))
 
@@ -129,6 +145,16 @@ module _ (h : Head) where
   stays tick n = refl
   stays (sample s) n = refl
   stays slot n = refl
+
+between : (n : ℕ) (c : Call) → Besides n c → Between n c
+between n _ a-slot = tt
+between n _ a-tick = tt
+between n _ (a-sample s) = tt
+between n _ (a-sync f i) = (λ q. omega (arith, i, q), rw (i, and-false (not (f .extended || f .remote))))
+between n _ (starting f i b) = (λ q. omega (arith, i, q), rw (b, and-false))
+between n _ (pausing f i b) = (λ q. omega (arith, i, q), rw (b, and-false))
+between n _ (elsewhere f i a b) =
+    (λ q. omega (arith, i, q), rw (ne-eqb (getD (f .bytes) 1 0) 0 a, ne-eqb (getD (f .bytes) 1 0) n b, and-false))
 
 -- Stopped and a reset end a transfer.
 pub ending : (a : Act) → Halts a → endsTransfer a ≡ true
@@ -139,7 +165,7 @@ ending _ (resetting r) = refl
 abbrev Begun : Transfer → Type 0
 Begun t = (t ≡ over) ⊎ ((1 ≤ t .name) × (t .name ≤ 3) × (t .segments ≡ 0))
 
-begun-at : (index : ℕ) → Begun (starting index)
+begun-at : (index : ℕ) → Begun (startingAt index)
 begun-at index =
     by From (eqb index 0x1008) (λ _. inr (omega arith, omega arith, refl))
     (λ _. by From (eqb index 0x1009) (λ _. inr (omega arith, omega arith, refl))
@@ -282,9 +308,9 @@ transfers =
     record {
       starts = starts;
       requests = λ h r f q. in-transfer h f (valid-reachable h r) q (λ u. runs-so h (sound h r) u .most);
-      busy = λ h r f. busy h f (valid-reachable h r);
       resets = λ h _. resets h;
       stops = λ h r. stops h (sound h r);
       stays = λ h _. stays h;
+      between = between;
       running = λ h r u. let g = runs-so h (sound h r) u in (g .most, g .more, g .live);
     }

@@ -15,7 +15,7 @@ use Rattle.names.specs.declared.Transfer.{Transfer}
 use Rattle.names.specs.Name.{unknown}
 use Rattle.names.specs.Transfer.{noTransfer}
 use Rattle.entries.specs.declared.Identity.{Identity}
-use Rattle.entries.specs.Identity.{isNamed}
+use Rattle.entries.specs.Identity.{hasNames}
 use Rattle.sdo.specs.declared.reply.Served.{Served}
 use Rattle.sdo.specs.Reply.{replies}
 use Rattle.sdo.specs.Service.{answer}
@@ -165,7 +165,7 @@ refusedWith n = answered n (started 1 noIdentity)
 
 -- 4: node number at power-up not 1..127; then 5: a name length out of range
 abbrev pub poweredUp : ℕ → Identity → Answer
-poweredUp n i = firstOf ((not (within 1 127 n), refusedWith 4) ∷ (not (isNamed i), refusedWith 5) ∷ []) (answered 0 (started n i))
+poweredUp n i = firstOf ((not (within 1 127 n), refusedWith 4) ∷ (not (hasNames i), refusedWith 5) ∷ []) (answered 0 (started n i))
 
 -- The number that a call answers, 0 for no refusal: 1 and 2 for a frame, 3 for a raw sample above 1,048,575.
 abbrev pub refusalBy : Call → ℕ

@@ -79,7 +79,7 @@ brings h k v sdoReply = true
 brings h k v heartbeat = false
 brings h k v (tpdo w) = false
 
--- From head h to head a only the reply changes, the transfer, and the line: the reply joins at its end.
+-- From head h to head a only the reply, the transfer and the line change: the reply joins at the line's end.
 pub record OnlyReplied (f : Received) (h a : Head) : Type 0 where
   pub entries : (i j : ℕ) → readsIn a i j ≡ readsIn h i j
   -- settings, saved set, reading and error list

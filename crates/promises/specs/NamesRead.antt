@@ -37,16 +37,16 @@ pub record Exchange (n : ℕ) (h : Head) (f : Received) (cs : List Call) (reply 
   pub arrives : Among (replyFrame n reply) (sent (step h (receive f)) cs)
 
 -- The segment with toggle k % 2, and its reply.
-pub record Segment (n k : ℕ) (h : Head) (f : Received) (cs : List Call) (reply : List ℕ) : Type 0 where
+pub record SegmentExchange (n k : ℕ) (h : Head) (f : Received) (cs : List Call) (reply : List ℕ) : Type 0 where
   pub exchange : Exchange n h f cs reply
   pub asks : AsksSegment (f .bytes)
   pub toggle : getD (f .bytes) 0 0 / 16 % 2 ≡ k % 2
 
 -- What the client receives from head h on, after k segments: it asks until bit 0 of a reply says that it was the last.
 pub data Receives (n : ℕ) : Head → ℕ → List ℕ → Type 0 where
-  last : {h : Head} {k : ℕ} (f : Received) (cs : List Call) (reply : List ℕ) → Segment n k h f cs reply → first reply % 2 ≡ 1
+  last : {h : Head} {k : ℕ} (f : Received) (cs : List Call) (reply : List ℕ) → SegmentExchange n k h f cs reply → first reply % 2 ≡ 1
       → Receives n h k (contents reply)
-  more : {h : Head} {k : ℕ} {rest : List ℕ} (f : Received) (cs : List Call) (reply : List ℕ) → Segment n k h f cs reply
+  more : {h : Head} {k : ℕ} {rest : List ℕ} (f : Received) (cs : List Call) (reply : List ℕ) → SegmentExchange n k h f cs reply
       → first reply % 2 ≡ 0 → Receives n (after (step h (receive f)) cs) (suc k) rest → Receives n h k (contents reply ++ rest)
 
 -- A request for segment k, as a client sends it: its other bits and bytes 1..7 may be anything.

@@ -25,10 +25,11 @@ use Rattle.promises.specs.Node1.{dataFrame}
 use Rattle.promises.specs.Codes.{All}
 use Rattle.promises.specs.Demand1.{BadNode, NamesFit}
 
--- 4's head (node 1, identity 0) and the name "?" for each
+-- "?"
 abbrev pub question : Name
 question = record { bytes = 0x3F ∷ replicate 31 0; length = 1 }
 
+-- 4's head (node 1, identity 0) and the name "?" for each
 abbrev pub refusedIdentity : Identity
 refusedIdentity =
     record { vendor = 0; product = 0; revision = 0; serial = 0; name = question; hardware = question; software = question }

@@ -3,7 +3,7 @@
 use Prim.Native.Nat.{ℕ, suc, _+_, _*_, _/_, _%_, _<_, _≤_}
 use lib.ListN.{getD}
 use mathlib.Core.Path.{_≡_}
-use mathlib.Core.Bool.{true}
+use mathlib.Core.Bool.{true, false}
 use mathlib.Core.List.{List, _∷_}
 use Rattle.can.specs.declared.Received.{Received}
 use Rattle.can.specs.Number.{lowFirst}
@@ -14,6 +14,7 @@ use Rattle.entries.specs.Identity.{nameOf}
 use Rattle.sdo.specs.Exactly.{Reads, Writes, ClientAborts}
 use Rattle.sdo.specs.UploadLaws.{AsksName, AsksSegment, Runs}
 use Rattle.parts.specs.declared.Head.{Head}
+use Rattle.parts.specs.declared.Sensor.{Sensor}
 use Rattle.parts.specs.Put.{withTransfer}
 use Rattle.promises.specs.States.{stopped, isLive, node, Reset, toEnter, toReset}
 use Rattle.promises.specs.WaitingLine.{sdoReply}
@@ -21,6 +22,7 @@ use Rattle.promises.specs.Calls.{Call, receive, tick, sample, slot, step
 use Rattle.promises.specs.Valid.{waits}
 use Rattle.promises.specs.Meant.{Commands, Requests}
 use Rattle.promises.specs.Histories.{PowerUp, powered, Reachable}
+use Rattle.promises.specs.Gap.{isCommand, stopsOrResets}
 
 abbrev pub over : Transfer
 over = record { name = 0; segments = 0 }
@@ -36,18 +38,28 @@ pub record Leaves (h a : Head) (bytes : List ℕ) (t : Transfer) : Type 0 where
   pub transfer : a .transfer ≡ t
   pub device : a .core .device ≡ h .core .device
 
--- of the calls that leave a transfer as it is: not a service request to node n, nor one of the commands 02h, 81h and 82h
+-- A frame that leaves a transfer as it is: no service request to node n, and no command that stops or resets it.
 abbrev pub Harmless : ℕ → Received → Type 0
-Harmless n f =
-    (f .identifier ≡ 0x600 + n → ⊥)
-    × (f .identifier ≡ 0x000 → let b = getD (f .bytes) 0 0 in (b ≡ 0x02 → ⊥) × (b ≡ 0x81 → ⊥) × (b ≡ 0x82 → ⊥))
+Harmless n f = (f .identifier ≡ 0x600 + n → ⊥) × (isCommand n stopsOrResets (receive f) ≡ false)
 
--- slots, ticks, samples, SYNC
+-- "Whatever else is called between": slots, ticks, samples, and every frame that is harmless
 abbrev pub Between : ℕ → Call → Type 0
 Between n (receive f) = Harmless n f
 Between n tick = Unit {0}
 Between n (sample s) = Unit {0}
 Between n slot = Unit {0}
+
+-- "(slots, ticks, samples, SYNC)", and commands that neither stop nor reset, or name another node
+pub data Besides (n : ℕ) : Call → Type 0 where
+  a-slot : Besides n slot
+  a-tick : Besides n tick
+  a-sample : (s : Sensor) → Besides n (sample s)
+  a-sync : (f : Received) → f .identifier ≡ 0x080 → Besides n (receive f)
+  -- 01h Operational, 80h Pre-operational
+  starting : (f : Received) → f .identifier ≡ 0x000 → getD (f .bytes) 0 0 ≡ 0x01 → Besides n (receive f)
+  pausing : (f : Received) → f .identifier ≡ 0x000 → getD (f .bytes) 0 0 ≡ 0x80 → Besides n (receive f)
+  elsewhere : (f : Received) → f .identifier ≡ 0x000 → (getD (f .bytes) 1 0 ≡ 0 → ⊥) → (getD (f .bytes) 1 0 ≡ n → ⊥)
+      → Besides n (receive f)
 
 -- for a head that comes from power-up, and a request that is served
 pub record InTransfer (h : Head) (f : Received) : Type 0 where
@@ -86,14 +98,13 @@ pub record Transfers : Type 0 where
   -- with no transfer running at power-up
   pub starts : (p : PowerUp) → powered p .transfer ≡ over
   pub requests : (h : Head) → Reachable h → (f : Received) → Requests h f → InTransfer h f
-  -- While a reply waits, any further request has no effect at all: it ends no transfer, the client's abort included.
-  pub busy : (h : Head) → Reachable h → (f : Received) → f .identifier ≡ 0x600 + node (h .core) → waits h sdoReply ≡ true
-      → step h (receive f) ≡ h
   -- A reset and entering Stopped end it;
   pub resets : (h : Head) → Reachable h → (f : Received) (r : Reset) → Commands h f (toReset r) → step h (receive f) .transfer ≡ over
+  -- (A reply withdrawn by Stopped goes with its transfer.)
   pub stops : (h : Head) → Reachable h → (f : Received) → Commands h f (toEnter stopped) → step h (receive f) .transfer ≡ over
   -- entering Pre-operational from Operational does not, nor does any other call that is no service request.
   pub stays : (h : Head) → Reachable h → (c : Call) → Between (node (h .core)) c → step h c .transfer ≡ h .transfer
+  pub between : (n : ℕ) (c : Call) → Besides n c → Between n c
   -- So a transfer is of one of the three names, some of it is still to be sent, and it runs in Pre-operational or Operational only.
   pub running : (h : Head) → Reachable h → Runs (h .transfer)
       → (h .transfer .name ≤ 3) × (7 * h .transfer .segments < its h (h .transfer .name) .length) × (isLive (h .core) ≡ true)

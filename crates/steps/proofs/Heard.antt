@@ -38,17 +38,19 @@ use Rattle.steps.specs.declared.hear.Heard.{Heard}
 use Rattle.steps.specs.Hear.{passingBy, keptBy, orderedBy, syncWay, writeWay, replyingBy, effectBy, servedBy, requestedBy, unrefusedBy}
 use Rattle.steps.specs.Hear.{heardBy}
 
--- a frame with this refusal number that is heard in this way means this act
-pub data Means (c : Core) : ℕ → Heard → Act → Type 0 where
-  passes : (n : ℕ) (t : Transfer) → Means c n (passingBy n 0 t) nothing
-  syncs : (t : Transfer) → Means c 0 (passingBy 0 2 t) sync
-  enters : (g : CommandedState) (t : Transfer) → isIn g c ≡ false
-      → Means c 0 (orderedBy (record { enters = true; state = state g; resets = false; all = false }) t) (enter g)
-  resets : (r : Reset) (t : Transfer) → Means c 0 (orderedBy (orderOf (c .nmt) (toReset r)) t) (reset r)
-  replies : (b : List ℕ) (t : Transfer) → isLive c ≡ true → Means c 0 (replyingBy 1 t b 0 0) (serve (segmented b t))
+-- a frame with this refusal number that is heard in this way means this act; t is the transfer before it
+pub data Means (c : Core) (t : Transfer) : ℕ → Heard → Act → Type 0 where
+  passes : (n : ℕ) → Means c t n (passingBy n 0 t) nothing
+  -- the client's abort
+  ends : (u : Transfer) → Means c t 0 (passingBy 0 9 u) nothing
+  syncs : Means c t 0 (passingBy 0 2 t) sync
+  enters : (g : CommandedState) → isIn g c ≡ false
+      → Means c t 0 (orderedBy (record { enters = true; state = state g; resets = false; all = false }) t) (enter g)
+  resets : (r : Reset) → Means c t 0 (orderedBy (orderOf (c .nmt) (toReset r)) t) (reset r)
+  replies : (b : List ℕ) (u : Transfer) → isLive c ≡ true → Means c t 0 (replyingBy 1 u b 0 0) (serve (segmented b u))
   -- the value of a write is one that its entry accepts
   writes : (b : List ℕ) (k x : ℕ) → isLive c ≡ true → Fits (c .device .settings .profile) k x
-      → Means c 0 (replyingBy (writeWay k) noTransfer b k x) (serve (record { bytes = b; effect = Write k x; transfer = noTransfer }))
+      → Means c t 0 (replyingBy (writeWay k) noTransfer b k x) (serve (record { bytes = b; effect = Write k x; transfer = noTransfer }))
 
 module _ (h : Head) where
   abbrev c : Core
@@ -57,48 +59,48 @@ module _ (h : Head) where
   abbrev t : Transfer
   t = h .transfer
 
-  orders : (k : Command) → Means c 0 (orderedBy (orderOf (c .nmt) k) t) (commanded c k)
-  orders noCommand = passes 0 t
-  orders (toEnter g) = by₂ (λ (o : Order) (a : Act). Means c 0 (orderedBy o t) a) (isIn g c) (λ _. passes 0 t) (λ e. enters g t e)
-  orders (toReset r) = resets r t
+  orders : (k : Command) → Means c t 0 (orderedBy (orderOf (c .nmt) k) t) (commanded c k)
+  orders noCommand = passes 0
+  orders (toEnter g) = by₂ (λ (o : Order) (a : Act). Means c t 0 (orderedBy o t) a) (isIn g c) (λ _. passes 0) (λ e. enters g e)
+  orders (toReset r) = resets r
 
-  synchronises : (length : ℕ) → Means c 0 (passingBy 0 (syncWay (c .nmt) length) t) (synchronised c length)
+  synchronises : (length : ℕ) → Means c t 0 (passingBy 0 (syncWay (c .nmt) length) t) (synchronised c length)
   synchronises length =
-      by₂ (λ (n : ℕ) (a : Act). Means c 0 (passingBy 0 n t) a) (leb length 1 && isIn operational c) (λ _. syncs t) (λ _. passes 0 t)
+      by₂ (λ (n : ℕ) (a : Act). Means c t 0 (passingBy 0 n t) a) (leb length 1 && isIn operational c) (λ _. syncs) (λ _. passes 0)
 
   module _ (f : Received) where
     serves : isLive c ≡ true → (x : Found) (u : Due) → Told (c .device) (isIn operational c) (f .bytes) x u
-        → Means c 0 (servedBy (answer (f .bytes) u)) (served (answer (f .bytes) u))
-    serves l x none k = passes 0 _
+        → Means c t 0 (servedBy (answer (f .bytes) u)) (served (answer (f .bytes) u))
+    serves l x none k = ends _
     serves l x (value w n) k = replies _ _ l
     serves l x (abort code) k = replies _ _ l
     serves l x (upload b u) k = replies _ _ l
     serves l x (confirmation i y) k = writes _ i y l (rw (k .key) (laws .written-fits (c .device) (k .place) y (k .takes)))
 
-    asks : Means c 0 (requestedBy (c .nmt) (c .device) t (h .line) f) (requested h f)
+    asks : Means c t 0 (requestedBy (c .nmt) (c .device) t (h .line) f) (requested h f)
     asks =
-        by₂ (Means c 0) (isServed h f)
+        by₂ (Means c t 0) (isServed h f)
         (λ e.
         let l = both (eqb (f .length) 8) (isLive c) (both (eqb (f .length) 8 && isLive c) (not (has line.sdoReply (h .line))) e .0) .1 in
         let b = f .bytes in
         let o = isIn operational c in
         serves l (lookup (indexOf b) (subOf b)) (dueIn (c .device) o t b) (told-in (c .device) o t b))
-        (λ _. passes 0 t)
+        (λ _. passes 0)
 
-    unrefused : Means c 0 (unrefusedBy (c .nmt) (c .device) t (h .line) f) (heardUnrefused h f)
+    unrefused : Means c t 0 (unrefusedBy (c .nmt) (c .device) t (h .line) f) (heardUnrefused h f)
     unrefused =
-        by₂ (Means c 0) (f .extended || f .remote || isInitialising c) (λ _. passes 0 t) (λ _.
-        by₂ (Means c 0) (eqb (f .identifier) 0x000) (λ _. orders (commandOf (node c) f)) (λ _.
-        by₂ (Means c 0) (eqb (f .identifier) 0x080) (λ _. synchronises (f .length)) (λ _.
-        by₂ (Means c 0) (eqb (f .identifier) (0x600 + node c)) (λ _. asks) (λ _. passes 0 t))))
+        by₂ (Means c t 0) (f .extended || f .remote || isInitialising c) (λ _. passes 0) (λ _.
+        by₂ (Means c t 0) (eqb (f .identifier) 0x000) (λ _. orders (commandOf (node c) f)) (λ _.
+        by₂ (Means c t 0) (eqb (f .identifier) 0x080) (λ _. synchronises (f .length)) (λ _.
+        by₂ (Means c t 0) (eqb (f .identifier) (0x600 + node c)) (λ _. asks) (λ _. passes 0))))
 
-    pub means : Means c (refusalOf f) (heardBy (c .nmt) (c .device) t (h .line) f) (heard h f)
+    pub means : Means c t (refusalOf f) (heardBy (c .nmt) (c .device) t (h .line) f) (heard h f)
     means =
-        by₂ (Means c (refusalOf f)) (eqb (refusalOf f) 0)
+        by₂ (Means c t (refusalOf f)) (eqb (refusalOf f) 0)
         (λ e.
-        subst (λ n. Means c n (unrefusedBy (c .nmt) (c .device) t (h .line) f) (heardUnrefused h f))
+        subst (λ n. Means c t n (unrefusedBy (c .nmt) (c .device) t (h .line) f) (heardUnrefused h f))
         (sym (eqb-true (refusalOf f) 0 e)) unrefused)
-        (λ _. passes (refusalOf f) t)
+        (λ _. passes (refusalOf f))
 
 -- The transfer that a frame leaves.
 served-transfer : (b : List ℕ) (t : Transfer) (e : Effect) → effectBy b t e .transfer ≡ t

@@ -5,12 +5,12 @@ use Rattle.can.specs.Frame.{refusalOf}
 use Rattle.parts.specs.declared.Answer.{Answer}
 use Rattle.steps.specs.Passes.{Laws}
 use Rattle.steps.proofs.Heard.{means}
-use Rattle.steps.proofs.Received.{refusal-so, goes}
+use Rattle.steps.proofs.Received.{refusal-so, passes-so}
 
 pub laws : Laws
 laws h f v =
     record {
-      unchanged = λ e. sym (ap (λ (a : Answer). a .head) (goes h v f 0 e .0));
+      unchanged = λ e. sym (ap (λ (a : Answer). a .head) (passes-so h v f e .0));
       refusal = refusal-so (means h f);
-      refused = λ n. let e = ne-eqb (refusalOf f) 0 n in (rw e, rw e);
+      refused = λ n. rw (ne-eqb (refusalOf f) 0 n);
     }

@@ -3,10 +3,11 @@ use Prim.Native.Nat.{ℕ, _<_}
 use native.Mathlib.Omega.{arith}
 use lib.Dec.{eqb, leb}
 use mathlib.Core.Path.{_≡_, refl, sym, ap, ap₂, subst, _∙_}
-use mathlib.Core.Bool.{false, not, _&&_, _||_}
+use mathlib.Core.Logic.{_⊎_, inl, inr, ⊎-elim}
+use mathlib.Core.Bool.{Bool, true, false, not, _&&_, _||_}
 use mathlib.Core.List.{List}
 use borrow.Author.Tests.{ne-eqb}
-use Rattle.cases.proofs.Cases.{by}
+use Rattle.cases.proofs.Cases.{by, true-false}
 use Rattle.can.specs.declared.Received.{Received}
 use Rattle.names.specs.declared.Transfer.{Transfer}
 use Rattle.names.specs.Transfer.{noTransfer}
@@ -31,27 +32,52 @@ use Rattle.server.proofs.Requests as server
 use Rattle.steps.specs.declared.hear.Heard.{Heard}
 use Rattle.steps.specs.Hear.{replyingBy, heardBy}
 use Rattle.steps.specs.Obey.{repliedIn, syncedIn, configuredIn, scaledIn, enteredIn, restartedIn, savedIn, emptiedIn, obeyedIn}
-use Rattle.steps.proofs.Heard.{Means, passes, syncs, enters, resets, replies, writes, means, transfer-so}
+use Rattle.steps.proofs.Heard.{Means, passes, ends, syncs, enters, resets, replies, writes, means, transfer-so}
 
-pub refusal-so : {c : Core} {n : ℕ} {w : Heard} {a : Act} → Means c n w a → w .refusal ≡ n
-refusal-so (passes n t) = refl
-refusal-so (syncs t) = refl
-refusal-so (enters g t e) = refl
-refusal-so (resets r t) = refl
-refusal-so (replies b t l) = refl
+pub refusal-so : {c : Core} {t : Transfer} {n : ℕ} {w : Heard} {a : Act} → Means c t n w a → w .refusal ≡ n
+refusal-so (passes n) = refl
+refusal-so (ends u) = refl
+refusal-so syncs = refl
+refusal-so (enters g e) = refl
+refusal-so (resets r) = refl
+refusal-so (replies b u l) = refl
 refusal-so (writes b k x l f) = refl
 
 -- if nothing is written the key is 0, which is not that of the preset
 no-preset : (p : ℕ) → 0 ≡ presetKey → 0 < p
 no-preset p e = absurd (omega (arith, e))
 
-fits-so : {c : Core} {n : ℕ} {w : Heard} {a : Act} → Means c n w a → Fits (c .device .settings .profile) (w .key) (w .value)
-fits-so (passes n t) = no-preset _
-fits-so (syncs t) = no-preset _
-fits-so (enters g t e) = no-preset _
-fits-so (resets r t) = no-preset _
-fits-so (replies b t l) = no-preset _
+fits-so : {c : Core} {t : Transfer} {n : ℕ} {w : Heard} {a : Act} → Means c t n w a → Fits (c .device .settings .profile) (w .key) (w .value)
+fits-so (passes n) = no-preset _
+fits-so (ends u) = no-preset _
+fits-so syncs = no-preset _
+fits-so (enters g e) = no-preset _
+fits-so (resets r) = no-preset _
+fits-so (replies b u l) = no-preset _
 fits-so (writes b k x l f) = f
+
+-- Of the ways of a frame, these may leave another transfer.
+abbrev moves : ℕ → Bool
+moves n = eqb n 1 || eqb n 3 || eqb n 4 || eqb n 5 || eqb n 6 || eqb n 7 || eqb n 8 || eqb n 9
+
+abbrev Moves : ℕ → Type 0
+Moves n = moves n ≡ true
+
+moved : {c : Core} {t : Transfer} {n : ℕ} {w : Heard} {a : Act} → Means c t n w a → (w .transfer ≡ t) ⊎ Moves (w .way)
+moved (passes n) = inl refl
+moved (ends u) = inr refl
+moved syncs = inl refl
+moved (enters g e) = inr refl
+moved (resets ofNode) = inr refl
+moved (resets ofCommunication) = inr refl
+moved (replies b u l) = inr refl
+moved (writes b k x l f) =
+    inr (by Moves (eqb k errorCountKey) (λ _. refl) (λ _.
+    by Moves (eqb k saveKey || eqb k loadKey) (λ _. refl) (λ _.
+    by Moves (leb operatingKey k && not (eqb k cycleKey)) (λ _. refl) (λ _. refl))))
+
+unmoved : {c : Core} {t : Transfer} {n : ℕ} {w : Heard} {a : Act} → Means c t n w a → moves (w .way) ≡ false → w .transfer ≡ t
+unmoved m n = ⊎-elim (λ e. e) (λ y. true-false (sym y ∙ n)) (moved m)
 
 no-way : (h : Head) (w : Heard) (n : ℕ) → (n ≡ 1 → ⊥) → (n ≡ 2 → ⊥) → (n ≡ 3 → ⊥) → (n ≡ 4 → ⊥) → (n ≡ 5 → ⊥) → (n ≡ 6 → ⊥)
     → (n ≡ 7 → ⊥) → (n ≡ 8 → ⊥) → obeyedIn h w n ≡ h
@@ -77,12 +103,13 @@ module _ (h : Head) (v : Valid h) where
   Written b k x way =
       obeyedIn h (replyingBy way noTransfer b k x) way ≡ act false h (serve (record { bytes = b; effect = Write k x; transfer = noTransfer }))
 
-  obeys-in : {n : ℕ} {w : Heard} {a : Act} → Means (h .core) n w a → Valid (act false h a) → obeyedIn h w (w .way) ≡ act false h a
-  obeys-in (passes n t) u = sym (act-nothing h)
-  obeys-in (syncs t) u = tpdo.syncs h v
-  obeys-in (enters g t e) u = nmt.enters h v g e
-  obeys-in (resets ofNode t) u = nmt.resets h v ofNode u
-  obeys-in (resets ofCommunication t) u = nmt.resets h v ofCommunication u
+  obeys-in : {t : Transfer} {n : ℕ} {w : Heard} {a : Act} → Means (h .core) t n w a → Valid (act false h a) → obeyedIn h w (w .way) ≡ act false h a
+  obeys-in (passes n) u = sym (act-nothing h)
+  obeys-in (ends t) u = sym (act-nothing h)
+  obeys-in syncs u = tpdo.syncs h v
+  obeys-in (enters g e) u = nmt.enters h v g e
+  obeys-in (resets ofNode) u = nmt.resets h v ofNode u
+  obeys-in (resets ofCommunication) u = nmt.resets h v ofCommunication u
   obeys-in (replies b t l) u = server.replies h v l b t
   obeys-in (writes b k x l f) u =
       by (Written b k x) (eqb k errorCountKey) (λ e. server.empties h v l b k x e) (λ e.
@@ -112,7 +139,11 @@ module _ (h : Head) (v : Valid h) where
         let q = p ∙ obeyed in
         (ap₂ answered (refusal-so (means h f)) q, subst Valid (sym q) (valid-step h (receive f) v))
 
-    pub goes : (n : ℕ) → w .way ≡ n → Receives h f (answered (w .refusal) (obeyedIn handed w n))
+    -- a way that leaves the transfer
+    same : moves (w .way) ≡ false → handed ≡ h
+    same n = ap (withTransfer h) (unmoved (means h f) n)
+
+    goes : (n : ℕ) → w .way ≡ n → Receives h f (answered (w .refusal) (obeyedIn handed w n))
     goes n e = leaves (ap (obeyedIn handed w) (sym e))
 
     -- what `steps::hear::hear`, and the steps of a write, ask for
@@ -123,14 +154,21 @@ module _ (h : Head) (v : Valid h) where
     value-fits = fits-so (means h f)
 
     pub passes-by : (w .way ≡ 1 → ⊥) → (w .way ≡ 2 → ⊥) → (w .way ≡ 3 → ⊥) → (w .way ≡ 4 → ⊥) → (w .way ≡ 5 → ⊥) → (w .way ≡ 6 → ⊥)
-        → (w .way ≡ 7 → ⊥) → (w .way ≡ 8 → ⊥) → Receives h f (answered (w .refusal) handed)
-    passes-by a b c d e g i j = leaves (sym (no-way handed w (w .way) a b c d e g i j))
+        → (w .way ≡ 7 → ⊥) → (w .way ≡ 8 → ⊥) → (w .way ≡ 9 → ⊥) → Receives h f (answered (w .refusal) h)
+    passes-by a b c d e g i j k =
+        let n = w .way in
+        let none : moves n ≡ false =
+        rw (ne-eqb n 1 a, ne-eqb n 3 c, ne-eqb n 4 d, ne-eqb n 5 e, ne-eqb n 6 g, ne-eqb n 7 i, ne-eqb n 8 j, ne-eqb n 9 k) in
+        leaves (sym (no-way handed w n a b c d e g i j ∙ same none))
+
+    pub passes-so : w .way ≡ 0 → Receives h f (answered (w .refusal) h)
+    passes-so e = leaves (sym (same (ap moves e)) ∙ ap (obeyedIn handed w) (sym e))
 
     pub replies-so : w .way ≡ 1 → Receives h f (answered (w .refusal) (repliedIn handed w))
     replies-so e = goes 1 e
 
-    pub syncs-so : w .way ≡ 2 → Receives h f (answered (w .refusal) (syncedIn handed))
-    syncs-so e = goes 2 e
+    pub syncs-so : w .way ≡ 2 → Receives h f (answered (w .refusal) (syncedIn h))
+    syncs-so e = leaves (ap syncedIn (sym (same (ap moves e))) ∙ ap (obeyedIn handed w) (sym e))
 
     pub configures-so : w .way ≡ 3 → Receives h f (answered (w .refusal) (configuredIn handed w))
     configures-so e = goes 3 e
@@ -149,3 +187,6 @@ module _ (h : Head) (v : Valid h) where
 
     pub empties-so : w .way ≡ 8 → Receives h f (answered (w .refusal) (emptiedIn handed w))
     empties-so e = goes 8 e
+
+    pub ends-so : w .way ≡ 9 → Receives h f (answered (w .refusal) handed)
+    ends-so e = goes 9 e

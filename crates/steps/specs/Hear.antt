@@ -55,7 +55,7 @@ replyingBy way t reply k v =
     record { refusal = 0; transfer = t; way = way; state = initialising; all = false; reply = reply; key = k; value = v }
 
 abbrev pub effectBy : List ℕ → Transfer → Effect → Heard
-effectBy b t Nothing = passingBy 0 0 t
+effectBy b t Nothing = passingBy 0 9 t
 effectBy b t Reply = replyingBy 1 t b 0 0
 effectBy b t (Write k v) = replyingBy (writeWay k) t b k v
 

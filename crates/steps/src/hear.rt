@@ -35,6 +35,8 @@ pub const SAVES: u8 = 7;
 
 pub const EMPTIES: u8 = 8;
 
+pub const ENDS: u8 = 9;
+
 const COMMAND: u32 = 0x000;
 
 const SYNC: u32 = 0x080;
@@ -155,7 +157,7 @@ fn served(served: Served) -> Heard
     let effect = served.effect;
     let transfer = served.transfer;
     match effect {
-        Effect::Nothing => passing(can::NO_REFUSAL, crate::NONE, transfer),
+        Effect::Nothing => passing(can::NO_REFUSAL, ENDS, transfer),
         Effect::Reply => replying(REPLIES, transfer, bytes, 0, 0),
         Effect::Write { key, value } => replying(write_way(key), transfer, bytes, key, value),
     }

@@ -1,13 +1,12 @@
 -- `power_up` meets its promise: refused with 4, refused with 5, or taken.
 use borrow.Author.Tests.{not-true, not-false}
 use Rattle.dictionary.specs.Valid.{FitsIdentity}
-use Rattle.dictionary.proofs.Names.{arrays-are}
 use Rattle.head.proofs.PowerUps.{powers-up, powers-up-not, powers-up-unnamed}
 use mathlib.Core.Path.{_≡_}
 use mathlib.Core.Bool.{true, false}
 use native.Mathlib.Omega.{arith}
 use borrow.Author.Needs.{needs}
-use Rattle.entries.specs.Identity.{isNamed}
+use Rattle.entries.specs.Identity.{hasNames}
 use Rattle.head.proofs.power_up.Statement.{statement}
 use Rattle.head.proofs.power_up.Tie as tie
 
@@ -38,7 +37,7 @@ returns-2 c =
     let first = second .before in
     let start = first .before .before .before in
     let a = start .args .setup in
-    let tested : isNamed (a .identity) ≡ false =
+    let tested : hasNames (a .identity) ≡ false =
     rw (← first .is-name .ensures .0, ← second .is-name2 .ensures .0, ← third .is-name3 .ensures .0) (not-true _ (c .before .if2 .taken)) in
     rw (c .refused2 .ensures) (powers-up-unnamed (a .node) (a .identity) (not-false _ (first .before .if1 .left)) tested)
 
@@ -52,7 +51,7 @@ returns-3 c =
     let first = second .before in
     let start = first .before .before .before in
     let a = start .args .setup in
-    let tested : isNamed (a .identity) ≡ true =
+    let tested : hasNames (a .identity) ≡ true =
     rw (← first .is-name .ensures .0, ← second .is-name2 .ensures .0, ← third .is-name3 .ensures .0) (not-false _ (c .before .if2 .left)) in
     let fits : FitsIdentity (a .identity) =
     record {
@@ -60,7 +59,7 @@ returns-3 c =
       product = omega (arith, start .good);
       revision = omega (arith, start .good);
       serial = omega (arith, start .good);
-      arrays = λ k. arrays-are (a .identity) k (first .is-name .ensures .1, second .is-name2 .ensures .1, third .is-name3 .ensures .1);
+      arrays = (first .is-name .ensures .1, second .is-name2 .ensures .1, third .is-name3 .ensures .1);
     } in
     rw (c .started .ensures) (powers-up (a .node) (a .identity) (not-false _ (first .before .if1 .left)) tested fits)
 

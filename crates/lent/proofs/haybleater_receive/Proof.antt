@@ -58,13 +58,13 @@ haybleater-receive-spec 𝓤 H 𝓜 𝓖 𝓡 =
     (step hear.name heard-row (head (nmt .from) ∷ head device ∷ head (transfer .from) ∷ head (line .from) ∷ known (here whole) ∷ [])
     (λ a. one (ValidProfile (a .1 .0 .settings .profile)))
     (λ a z. one (z ≡ heardBy (a .0) (a .1 .0) (a .1 .1 .0) (a .1 .1 .1 .0) (a .1 .1 .1 .1 .0))))
-    (store (here (heard-transfer ▸ whole)) (transfer .into)
     (match (here (heard-way ▸ whole))
     -- a reply
     (way 1
+    (store (here (heard-transfer ▸ whole)) (transfer .into)
     (calls (step reply-step.name replied-row (head (line .from) ∷ known (here (heard-reply ▸ whole)) ∷ []) (λ a. none)
     (λ a z. one (z ≡ repliedBy (a .0) (a .1 .0))))
-    (store (here (replied-reply ▸ whole)) (reply .into) (store (here (replied-line ▸ whole)) (line .into) stop)))
+    (store (here (replied-reply ▸ whole)) (reply .into) (store (here (replied-line ▸ whole)) (line .into) stop))))
     -- a SYNC
     (way 2
     (calls
@@ -73,6 +73,7 @@ haybleater-receive-spec 𝓤 H 𝓜 𝓖 𝓡 =
     (store (here (synced-timers ▸ whole)) (timers .into) (store (here (synced-line ▸ whole)) (line .into) stop)))
     -- a write of the communication settings
     (way 3
+    (store (here (heard-transfer ▸ whole)) (transfer .into)
     (calls
     (step configure.name configured-row
     (head (nmt .from) ∷ head (communication .from) ∷ head (timers .from) ∷ head good ∷ head (announced .from) ∷ head (line .from)
@@ -82,9 +83,10 @@ haybleater-receive-spec 𝓤 H 𝓜 𝓖 𝓡 =
     (a .1 .1 .1 .1 .1 .1 .0) (a .1 .1 .1 .1 .1 .1 .1 .0) (a .1 .1 .1 .1 .1 .1 .1 .1 .0))))
     (store (here (configured-communication ▸ whole)) (communication .into)
     (store (here (configured-timers ▸ whole)) (timers .into)
-    (store (here (configured-reply ▸ whole)) (reply .into) (store (here (configured-line ▸ whole)) (line .into) stop)))))
+    (store (here (configured-reply ▸ whole)) (reply .into) (store (here (configured-line ▸ whole)) (line .into) stop))))))
     -- a write of the profile
     (way 4
+    (store (here (heard-transfer ▸ whole)) (transfer .into)
     (calls
     (step scale.name scaled-row
     (head (profile .from) ∷ head raw ∷ head (line .from) ∷ known (here (heard-reply ▸ whole)) ∷ known (here (heard-key ▸ whole))
@@ -92,9 +94,10 @@ haybleater-receive-spec 𝓤 H 𝓜 𝓖 𝓡 =
     (λ a. one ((ValidProfile (a .0)) × (Fits (a .0) (a .1 .1 .1 .1 .0) (a .1 .1 .1 .1 .1 .0))))
     (λ a z. one (z ≡ scaledBy (a .0) (a .1 .0) (a .1 .1 .0) (a .1 .1 .1 .0) (a .1 .1 .1 .1 .0) (a .1 .1 .1 .1 .1 .0))))
     (store (here (scaled-profile ▸ whole)) (profile .into)
-    (store (here (scaled-reply ▸ whole)) (reply .into) (store (here (scaled-line ▸ whole)) (line .into) stop))))
+    (store (here (scaled-reply ▸ whole)) (reply .into) (store (here (scaled-line ▸ whole)) (line .into) stop)))))
     -- a state entered
     (way 5
+    (store (here (heard-transfer ▸ whole)) (transfer .into)
     (calls
     (step enter.name entered-row
     (head (nmt .from) ∷ head (communication .from) ∷ head (timers .from) ∷ head good ∷ head (announced .from) ∷ head (line .from)
@@ -103,30 +106,35 @@ haybleater-receive-spec 𝓤 H 𝓜 𝓖 𝓡 =
     (λ a z. one (z ≡ enteredBy (a .0) (a .1 .0) (a .1 .1 .0) (a .1 .1 .1 .0) (a .1 .1 .1 .1 .0) (a .1 .1 .1 .1 .1 .0)
     (a .1 .1 .1 .1 .1 .1 .0))))
     (store (here (entered-nmt ▸ whole)) (nmt .into)
-    (store (here (entered-timers ▸ whole)) (timers .into) (store (here (entered-line ▸ whole)) (line .into) stop))))
+    (store (here (entered-timers ▸ whole)) (timers .into) (store (here (entered-line ▸ whole)) (line .into) stop)))))
     -- a reset
     (way 6
+    (store (here (heard-transfer ▸ whole)) (transfer .into)
     (calls
     (step restart.name restarted-row (head (settings .from) ∷ head (saved .from) ∷ known (here (heard-all ▸ whole)) ∷ [])
     (λ a. none) (λ a z. one (z ≡ restartedBy (a .0) (a .1 .0) (a .1 .1 .0))))
     (store (here (restarted-settings ▸ whole)) (settings .into)
     (store (here (restarted-nmt ▸ whole)) (nmt .into)
     (store (here (restarted-announced ▸ whole)) (announced .into)
-    (store (here (restarted-timers ▸ whole)) (timers .into) (store (here (restarted-line ▸ whole)) (line .into) stop))))))
+    (store (here (restarted-timers ▸ whole)) (timers .into) (store (here (restarted-line ▸ whole)) (line .into) stop)))))))
     -- "save" and "load"
     (way 7
+    (store (here (heard-transfer ▸ whole)) (transfer .into)
     (calls
     (step save.name saved-row
     (head node ∷ head (settings .from) ∷ head (line .from) ∷ known (here (heard-reply ▸ whole)) ∷ known (here (heard-key ▸ whole)) ∷ [])
     (λ a. none) (λ a z. one (z ≡ savedBy (a .0) (a .1 .0) (a .1 .1 .0) (a .1 .1 .1 .0) (a .1 .1 .1 .1 .0))))
     (store (here (saved-saved ▸ whole)) (saved .into)
-    (store (here (saved-reply ▸ whole)) (reply .into) (store (here (saved-line ▸ whole)) (line .into) stop))))
+    (store (here (saved-reply ▸ whole)) (reply .into) (store (here (saved-line ▸ whole)) (line .into) stop)))))
     -- the error list emptied
     (way 8
+    (store (here (heard-transfer ▸ whole)) (transfer .into)
     (calls (step empty.name emptied-row (head (line .from) ∷ known (here (heard-reply ▸ whole)) ∷ []) (λ a. none)
     (λ a z. one (z ≡ emptiedBy (a .0) (a .1 .0))))
     (store (here (emptied-errors ▸ whole)) (errors .into)
-    (store (here (emptied-reply ▸ whole)) (reply .into) (store (here (emptied-line ▸ whole)) (line .into) stop))))
+    (store (here (emptied-reply ▸ whole)) (reply .into) (store (here (emptied-line ▸ whole)) (line .into) stop)))))
+    -- the client's abort
+    (way 9 (store (here (heard-transfer ▸ whole)) (transfer .into) stop)
     otherwise))))))))))
     (answers (here (heard-refusal ▸ whole)))
     (λ h xs. one (Valid h)) (λ h xs n h′. one (Receives h (xs .0) (answered n h′)))
@@ -153,12 +161,15 @@ haybleater-receive-spec 𝓤 H 𝓜 𝓖 𝓡 =
                         λ hit. (tt, λ o i. rw (i, e) (received.saves-so h v f (w ∙ hit))),
                         (
                           λ hit. (tt, λ o i. rw (i, e) (received.empties-so h v f (w ∙ hit))),
-                          λ m. rw e (received.passes-by h v f
-                              (λ q. m .0 .0 .0 .0 .0 .0 .0 .1 (sym w ∙ q)) (λ q. m .0 .0 .0 .0 .0 .0 .1 (sym w ∙ q))
-                              (λ q. m .0 .0 .0 .0 .0 .1 (sym w ∙ q))
-                              (λ q. m .0 .0 .0 .0 .1 (sym w ∙ q)) (λ q. m .0 .0 .0 .1 (sym w ∙ q)) (λ q. m .0 .0 .1 (sym w ∙ q))
-                              (λ q. m .0 .1 (sym w ∙ q))
-                              (λ q. m .1 (sym w ∙ q))),
+                          (
+                            λ hit. rw e (received.ends-so h v f (w ∙ hit)),
+                            λ m. rw e (received.passes-by h v f
+                                (λ q. m .0 .0 .0 .0 .0 .0 .0 .0 .1 (sym w ∙ q)) (λ q. m .0 .0 .0 .0 .0 .0 .0 .1 (sym w ∙ q))
+                                (λ q. m .0 .0 .0 .0 .0 .0 .1 (sym w ∙ q)) (λ q. m .0 .0 .0 .0 .0 .1 (sym w ∙ q))
+                                (λ q. m .0 .0 .0 .0 .1 (sym w ∙ q)) (λ q. m .0 .0 .0 .1 (sym w ∙ q)) (λ q. m .0 .0 .1 (sym w ∙ q))
+                                (λ q. m .0 .1 (sym w ∙ q))
+                                (λ q. m .1 (sym w ∙ q))),
+                          ),
                         ),
                       ),
                     ),
@@ -184,7 +195,7 @@ haybleater-receive-spec 𝓤 H 𝓜 𝓖 𝓡 =
                   ((restart.routine, code.calls-nmt·entry·restart, restart-thm.met 𝓤 H 𝓜 𝓖 𝓡), tt),
                   (
                     ((save.routine, code.calls-server·effect·save, save-thm.met 𝓤 H 𝓜 𝓖 𝓡), tt),
-                    (((empty.routine, code.calls-server·effect·empty, empty-thm.met 𝓤 H 𝓜 𝓖 𝓡), tt), tt),
+                    (((empty.routine, code.calls-server·effect·empty, empty-thm.met 𝓤 H 𝓜 𝓖 𝓡), tt), (tt, tt)),
                   ),
                 ),
               ),
