@@ -12,7 +12,7 @@ NMT_COMMAND = 0x000
 NMT_LENGTH = 2
 REQUEST = 0x600
 REPLY = 0x580
-# Top bits of byte 0: a write, or a read and its reply. Other frames have no entry's value there: a segment has bytes of a name.
+# Top bits of byte 0: a write, or a read and its reply. Other frames have no value in bytes 4 to 7: a segment has bytes of a name.
 WITH_VALUE = (1, 2)
 # The entries that have an identifier as their value, as the bytes 1 to 3 of a request and a reply: 1014-0, 1800-1, 1801-1.
 WITH_IDENTIFIER = (b"\x14\x10\x00", b"\x00\x18\x01", b"\x01\x18\x01")

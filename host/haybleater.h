@@ -71,8 +71,8 @@ typedef struct {
 } haybleater_head;
 
 /*
- * A name: 1 to 32 bytes. Bytes from `length` on are ignored, and it needs no terminator. CiA 301 wants bytes 20h to 7Eh; the head
- * sends every byte as it is.
+ * A name: 1 to 32 bytes. Bytes from `length` on are ignored, and it needs no terminator. The head sends
+ * every byte as it is; CiA 301 wants visible characters.
  */
 typedef struct {
     uint8_t bytes[32];

@@ -33,7 +33,7 @@ abbrev pub risesFrom : ℕ → List ℕ → Bool
 risesFrom a [] = true
 risesFrom a (b ∷ l) = ltb a b && risesFrom b l
 
--- 01's table "Entries" with the names 1008h, 1009h, 100Ah, its first two columns: index, sub-index, the type's bytes, and whether it is rw.
+-- 01's table "Entries", its first two columns, and the names 1008h, 1009h, 100Ah: index, sub-index, the type's bytes, whether it is rw.
 abbrev pub columns : List (ℕ × ℕ × ℕ × Bool)
 columns =
     (0x1000, 0, 4, false) ∷

@@ -26,7 +26,7 @@ segment n k s =
     let c : take (7 - commandOf (n .length) k / 2 % 8) (pad 7 left) ≡ take 7 left = rw u (pad-front 7 left) in
     let next : 7 * suc k ≡ 7 * k + 7 = omega arith in
     record {
-      eight = ap suc (shared .long 7 left);
+      eight-bytes = ap suc (shared .long 7 left);
       top = p .top;
       toggle = p .toggle;
       full = λ g. p .unused ∙ omega arith;

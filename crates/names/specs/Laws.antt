@@ -26,7 +26,7 @@ pub record Sending (n : Name) (k : ℕ) : Type 0 where
 
 -- the reply to the next segment
 pub record Segment (n : Name) (k : ℕ) : Type 0 where
-  pub eight : length (segmentOf n k) ≡ 8
+  pub eight-bytes : length (segmentOf n k) ≡ 8
   -- the top three bits say "segment",
   pub top : first (segmentOf n k) / 32 ≡ 0
   -- bit 4 repeated, 0 first

@@ -1,5 +1,5 @@
--- The reply to a segment request: "bit 4 repeated, bits 3..1 the number of unused bytes, bit 0 set in the last, then 7 bytes,
--- unused 0. Each but the last carries 7." CiA 301, "SDO upload segment"; k segments of the name were answered before.
+-- The reply to a segment request: bit 4 repeated, bits 3..1 the number of unused bytes, bit 0 set in the last, then 7 bytes,
+-- unused 0. Each but the last carries 7. CiA 301, "SDO upload segment"; k segments of the name were answered before.
 use Prim.Native.Nat.{ℕ, _+_, _-_, _*_, _%_}
 use lib.Dec.{leb}
 use lib.ListN.{getD, drop}

@@ -8,7 +8,7 @@ ghost use Rattle.names.specs.Laws.{Laws};
 ghost use Rattle.names.specs.Transfer.{runs as isRunning, numberOf, starting, following, lowByte, naming};
 use can::Bytes;
 
-pub const LONGEST: u8 = 32;
+const LONGEST: u8 = 32;
 
 // A string of 1 to 32 bytes: the first `length` of `bytes`.
 #[repr(C)]
@@ -17,7 +17,7 @@ pub struct Name {
     pub length: u8,
 }
 
-// An upload of a name: its number is 1 for 1008h, 2 for 1009h, 3 for 100Ah, and 0 if no upload runs; and the segments answered so far.
+// The upload of a name: its number is 1 for 1008h, 2 for 1009h, 3 for 100Ah, and 0 if none runs; and the segments answered so far.
 #[repr(C)]
 pub struct Transfer {
     pub name: u8,
@@ -31,11 +31,11 @@ impl Transfer {
     };
 }
 
-pub const DEVICE_NAME: u16 = 0x1008;
+const DEVICE_NAME: u16 = 0x1008;
 
-pub const HARDWARE_VERSION: u16 = 0x1009;
+const HARDWARE_VERSION: u16 = 0x1009;
 
-pub const SOFTWARE_VERSION: u16 = 0x100A;
+const SOFTWARE_VERSION: u16 = 0x100A;
 
 const SEGMENT: u32 = 7;
 
@@ -71,7 +71,7 @@ pub fn runs(transfer: Transfer) -> bool
     transfer.name != 0
 }
 
-// The upload that a read of this index starts; none if the index is not a name's.
+// The transfer that a read of this index starts; none if the index is not a name's.
 pub fn started(index: u16) -> Transfer
     ensures { λ r. ⌜ r ≡ starting index ⌝ }
 {
@@ -103,7 +103,7 @@ pub fn toggle(transfer: Transfer) -> u8
     transfer.segments % 2
 }
 
-// The bytes of a request that names the entry of the upload.
+// The bytes of a request that names the entry of the transfer.
 pub fn named(transfer: Transfer) -> Bytes
     ensures { λ r. ⌜ r ≡ naming (transfer .name) ⌝ }
 {
@@ -139,7 +139,7 @@ pub fn segment(name: Name, segments: u8) -> Bytes
     ]
 }
 
-// The upload after that reply: the last segment ends it.
+// The transfer after that reply: the last segment ends it.
 pub fn next(transfer: Transfer, length: u8) -> Transfer
     ensures { λ r. ⌜ r ≡ following transfer length ⌝ }
 {

@@ -38,7 +38,8 @@ pub struct Timers {
     pub pdo2: Clock,
 }
 
-// All but the line and the transfer. `announced` is whether the reading last announced was good. `reply` holds the bytes of the SDO reply last made.
+// All but the line and the transfer. `announced` is whether the reading last announced was good. `reply` holds the bytes of the SDO
+// reply last made.
 #[repr(C)]
 pub struct Core {
     pub nmt: Nmt,

@@ -60,6 +60,7 @@ pub record Demand1 : Type 0 where
   pub gives-4 : (n : ℕ) (i : Identity) → (poweredUp n i .refusal ≡ 4) ↔ BadNode n
   -- 5 for a name length out of range, after 4
   pub gives-5 : (n : ℕ) (i : Identity) → (poweredUp n i .refusal ≡ 5) ↔ ((BadNode n → ⊥) × (NamesFit i → ⊥))
+  -- no refusal: such a node number, and names that fit
   pub takes-node : (n : ℕ) (i : Identity) → (poweredUp n i .refusal ≡ 0) ↔ (((1 ≤ n) × (n ≤ 127)) × NamesFit i)
   -- 1, 2 and 3: the number; head unchanged
   pub frame-refused : (h : Head) (f : Received) → (refusalBy (receive f) ≡ 0 → ⊥) → step h (receive f) ≡ h

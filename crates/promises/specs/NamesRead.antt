@@ -1,5 +1,5 @@
--- "A client that follows CiA 301 (first request, then segments with alternating toggles, each after the reply before) receives
--- exactly the name, for every length 1..32, whatever else is called between (slots, ticks, samples, SYNC)." Change request 1/13.
+-- A client that follows CiA 301 (first request, then segments with alternating toggles, each after the reply before) receives
+-- exactly the name, for every length 1..32, whatever else is called between (slots, ticks, samples, SYNC). Change request 1/13.
 use Prim.Native.Nat.{ℕ, suc, _+_, _/_, _%_, _≤_}
 use lib.Dec.{eqb}
 use lib.ListN.{length, getD, take}

@@ -1,5 +1,5 @@
 -- A name is read by CiA 301's segmented SDO upload: what each call does to the transfer, and what each request of it gets.
--- Change request 1/13, with "How open points are read". A transfer is the number of a name, 0 for none, and its segments answered so far.
+-- Change request 1/13, read as docs/DECISIONS.md says. A transfer is the number of a name, 0 for none, and its segments answered so far.
 use Prim.Native.Nat.{ℕ, suc, _+_, _*_, _/_, _%_, _<_, _≤_}
 use lib.ListN.{getD}
 use mathlib.Core.Path.{_≡_}
@@ -88,7 +88,7 @@ pub record InTransfer (h : Head) (f : Received) : Type 0 where
   pub read-only : (k : ℕ) → Writes (f .bytes) → AsksName k (f .bytes)
       → let b = f .bytes in
       Leaves h (step h (receive f)) (0x80 ∷ getD b 1 0 ∷ getD b 2 0 ∷ getD b 3 0 ∷ lowFirst 4 0x06010002) over
-  -- Every one that is not the segment due ends the transfer, whatever is answered: a read, a write, other top bits, a wrong toggle.
+  -- Every one but a segment request ends the transfer, whatever is answered: a read, a write, other top bits; a read of a name starts another.
   pub ends : (Runs (h .transfer) → AsksSegment (f .bytes) → ⊥) → ((k : ℕ) → Reads (f .bytes) → AsksName k (f .bytes) → ⊥)
       → step h (receive f) .transfer ≡ over
   -- The client's abort ends the transfer without a reply.

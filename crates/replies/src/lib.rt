@@ -68,7 +68,7 @@ pub fn shown(request: Bytes, width: u8, entry: Shown) -> Served
     }
 }
 
-// The reply to the segment request that is due, and the transfer that goes on.
+// The reply to the segment request that is due, and the transfer that it leaves.
 pub fn segment(bytes: Bytes, transfer: Transfer) -> Served
     ensures { λ r. ⌜ r ≡ segmented bytes transfer ⌝ }
 {

@@ -1,5 +1,5 @@
--- A client reads a name of eight bytes in two segments, with a tick, a sample and a SYNC between, and then another. This run meets the conditions of
--- `NamesRead` of crate promises. Change request 1/13.
+-- A client reads a name of eight bytes in two segments, with a tick, a sample and a SYNC between, or a name of one byte.
+-- These runs meet the conditions of `NamesRead` of crate promises. Change request 1/13.
 use Prim.Native.Nat.{ℕ}
 use mathlib.Core.List.{List, [], _∷_}
 use Rattle.names.specs.Name.{named}

@@ -1,4 +1,4 @@
--- The segments of a name, and what is due while its transfer runs. Change request 1/13, with "How open points are read".
+-- The segments of a name, and what is due while its transfer runs. Change request 1/13, read as docs/DECISIONS.md says.
 use Prim.Native.Nat.{ℕ}
 use lib.Dec.{eqb}
 use mathlib.Core.Bool.{Bool, _&&_, cond}

@@ -1,5 +1,5 @@
 -- What is due while a transfer t runs, or none, for every device and every request f, by the bytes of the request:
--- change request 1/13, with "How open points are read". These laws check specs/Upload.
+-- change request 1/13, read as docs/DECISIONS.md says. These laws check specs/Upload.
 use Prim.Native.Nat.{ℕ, _+_, _*_, _/_, _%_, _≤_}
 use lib.ListN.{getD}
 use mathlib.Core.Path.{_≡_}
@@ -64,7 +64,7 @@ pub record UploadLaws (d : Device) (o : Bool) (t : Transfer) (f : List ℕ) : Ty
       }
   -- A write to it is 0601 0002h (step 3, before lengths).
   pub read-only : (k : ℕ) → Writes f → AsksName k f → dueIn d o t f ≡ abort 0x06010002
-  -- Every request that is not the segment due ends the transfer, whatever is answered; a read of a name starts the next.
+  -- Every request but a segment's ends the transfer, whatever is answered; a read of a name starts another.
   pub ends : (Runs t → AsksSegment f → ⊥) → ((k : ℕ) → Reads f → AsksName k f → ⊥) → servedIn d o t f .transfer ≡ noTransfer
   -- The client's abort ends the transfer without a reply; every other request gets one.
   pub client : (dueIn d o t f ≡ none) ↔ ClientAborts f
