@@ -31,10 +31,10 @@ def number(at, node):
     return {OWN: node, node: OWN}.get(at, at)
 
 
-def identifier_of(command, text):
-    """The identifier that --position gives; a wrong one ends the program with one line."""
+def identifier_of(command, option, text):
+    """The identifier that an option gives; a wrong one ends the program with one line."""
     if not IDENTIFIER.fullmatch(text):
-        sys.exit(f"{command}: --position: not an identifier in hex: {text}")
+        sys.exit(f"{command}: {option}: not an identifier in hex: {text}")
     return int(text, 16)
 
 

@@ -38,6 +38,11 @@ READ_PRESET, READ_POSITION, READ_OFFSET = ("read", 0x6003_00), ("read", 0x6004_0
 TAPE, DEFAULT_PRESET = ("sample", 20_000), ("write", 0x6003_00, 4, 0)
 FACTORY_RANGE = ("write", 0x6002_00, 4, 1_048_576)
 
+# Steps for the sentences about position frames: the tape is at 100, and moves or is lost while a frame waits
+TPDO1, TPDO2 = 0x180, 0x280
+FIRST, SECOND = ("sent", TPDO1), ("sent", TPDO2)
+STARTED, SYNC, MOVED, AGAIN, LOST = (SAMPLE, ("start",)), ("sync",), ("moved", 200), ("moved", 300), ("lost",)
+
 TABLE_LINE = re.compile(r" +entry 0x([0-9A-F]{4}) ([0-9]+) (U8|U16|U32|S32|name) (ro|rw) .*")
 
 # The names: CiA 301 calls their access const, which the proved table and the head do not tell from ro
@@ -286,6 +291,45 @@ def carries(reply, step, due):
     return kind and number_of(reply) == due
 
 
+def typed(node, key, identifier, kind):
+    """The steps that give a PDO a transmission type; it has to be off for that."""
+    return ("write", key | 1, 4, 0x8000_0000), ("write", key | 2, 1, kind), ("write", key | 1, 4, identifier + node)
+
+
+def frame_sentences(node):
+    """Sentences of the comments about position frames, each with trials and the position in the frame that the last slot sends, or none."""
+    timed = [typed(node, 0x1800_00, TPDO1, kind) + STARTED for kind in (254, 255)]
+    by_sync = [typed(node, 0x1801_00, TPDO2, kind) + STARTED + (FIRST,) + (SYNC,) * kind for kind in (1, 2, 240)]
+    first_by_sync = (*typed(node, 0x1800_00, TPDO1, 1), *STARTED, SYNC)
+    factory = (*STARTED, FIRST, SYNC)
+    return {
+        "Types 1..240 of 1800sub2 and 1801sub2 send the position of the SYNC at which the frame is due, also if it leaves later. "
+        "Types 254 and 255 send the position at the moment of sending.": [
+            *(((*waiting, MOVED, FIRST), 200) for waiting in timed),
+            *(((*waiting, MOVED, SECOND), 100) for waiting in (*by_sync, factory)),
+            ((*first_by_sync, MOVED, FIRST), 100),
+            ((*factory, MOVED, SYNC, AGAIN, SECOND), 200),
+            ((*by_sync[1], MOVED, SYNC, AGAIN, SECOND), 100),
+            ((*by_sync[1], MOVED, SYNC, SYNC, AGAIN, SECOND), 200)],
+        "If the reading goes missing, a waiting frame of types 254 and 255 is taken back. "
+        "One of types 1..240 still leaves, with the position of its SYNC.": [
+            *(((*waiting, LOST, *slots), None) for waiting in timed for slots in ((FIRST,), (FIRST, FIRST), (MOVED, FIRST))),
+            *(((*waiting, LOST, *later, SECOND), 100) for waiting in (*by_sync, factory) for later in ((), (SYNC,), (MOVED,))),
+            ((*first_by_sync, LOST, FIRST), 100),
+            ((*factory, SECOND, LOST, SYNC, FIRST, SECOND), None)],
+    }
+
+
+def position_frames(comments, head, node):
+    """Those sentences stand in the comments, and the head's frames are as they say."""
+    for sentence, trials in frame_sentences(node).items():
+        if sentence not in comments.sentences:
+            yield f"[Comments] do not say: {sentence}"
+        for (trial, due), sent in zip(trials, head.replies(node, [trial for trial, _ in trials])):
+            if sent != (b"" if due is None else due.to_bytes(4, "little")):
+                yield f"node {node} sends {sent.hex(' ') or 'nothing'} as {trial[-1][1] + node:03X}h, against: {sentence}"
+
+
 def mapping(entries, head, node):
     """An entry can be mapped exactly if the head maps it, in its whole length."""
     keys = [entry.key for entry in entries if entry.index in MAPPINGS and entry.sub > 0]
@@ -316,5 +360,6 @@ def differences(objects, comments, head, twin, specification):
         yield from access(entries, head, node)
         yield from mapping(entries, head, node)
         yield from facts(comments, head, node)
+        yield from position_frames(comments, head, node)
         yield from values(writable, comments, head, node)
         yield from states(writable, comments, head, node)

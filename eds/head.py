@@ -1,4 +1,4 @@
-"""The head itself, asked over SDO: fresh heads of any node number, in Pre-operational, served by target/host/drive."""
+"""The head itself, asked over SDO and for its position frames: fresh heads of any node number, in Pre-operational, served by target/host/drive."""
 import pathlib
 import struct
 import subprocess
@@ -10,7 +10,12 @@ RECORD = 24
 SECONDS = 300
 
 BOOT_UP, EMERGENCY, SDO_REQUEST, SDO_REPLY = 0x700, 0x080, 0x600, 0x580
+NMT, SYNC = 0x000, 0x080
 PRE_OPERATIONAL = 0x7F
+START = 0x01
+
+# Steps after which the head does not get the bus, so that a frame that waits goes on waiting; "sent" is a slot by itself
+WITHOUT_SLOT = ("start", "sync", "moved", "lost", "sent")
 
 # First byte of a request or reply, by the number of data bytes
 READ = 0x40
@@ -42,23 +47,40 @@ def plain(which):
     return struct.pack("<c23x", which)
 
 
+def received(identifier, payload):
+    """The call that brings a frame."""
+    return struct.pack("<c2xBI8s8x", b"F", len(payload), identifier, payload)
+
+
 def request(node, payload):
     """The call that brings a service request."""
-    return struct.pack("<c2xBI8s8x", b"F", len(payload), SDO_REQUEST + node, payload)
+    return received(SDO_REQUEST + node, payload)
 
 
 SLOT, KEEP, TAKE_BACK = plain(b"?"), plain(b"K"), plain(b"R")
+# Steps whose call is the same whatever the node
+PLAIN_STEPS = {"sync": received(SYNC, b""), "lost": plain(b"M"), "sent": SLOT}
 
 
 def step_call(node, step):
-    """The call of a step: ("sample", raw), ("segment", key, number) of the transfer that runs, or one that names its entry."""
+    """The call of a step: a sample, a start, a plain step, ("segment", key, number) of the transfer that runs, or one that names its entry."""
     what, *numbers = step
-    if what == "sample":
+    if what in PLAIN_STEPS:
+        return PLAIN_STEPS[what]
+    if what in ("sample", "moved"):
         return struct.pack("<c3xI16x", b"S", *numbers)
+    if what == "start":
+        return received(NMT, bytes([START, node]))
     if what == "segment":
         return request(node, struct.pack("<B7x", SEGMENT | numbers[1] % 2 * TOGGLE))
     first, key, value = entry_request(what, *numbers)
     return request(node, struct.pack("<BHBI", first, key >> 8, key & 0xFF, value))
+
+
+def step_calls(node, step):
+    """The calls of a step: after most steps the head gets the bus for one frame."""
+    call = step_call(node, step)
+    return [call] if step[0] in WITHOUT_SLOT else [call, SLOT]
 
 
 def entry_request(what, key, width=0, value=0):
@@ -123,7 +145,7 @@ class Head:
         return other
 
     def replies(self, node, trials):
-        """The reply to the last step of each trial, a tuple of steps that a fresh head takes."""
+        """The reply to the last step of each trial, a tuple of steps that a fresh head takes; of ("sent", identifier) the position frame."""
         known = self.known.setdefault(node, {})
         new = [trial for trial in dict.fromkeys(trials) if trial not in known]
         if new:
@@ -138,11 +160,11 @@ class Head:
         for trial in trials:
             calls.append(TAKE_BACK)
             for step in trial:
-                calls += [step_call(node, step), SLOT]
+                calls += step_calls(node, step)
             ends.append(len(calls) - 1)
         answers = run(calls)
         booted(node, answers[made - 3:made])
-        return [sdo_reply(node, frame(answers[end])) for end in ends]
+        return [answered(node, trial[-1], frame(answers[end])) for trial, end in zip(trials, ends)]
 
     def alter(self, step, reply):
         """The reply, or what a wrong head gives instead."""
@@ -175,6 +197,13 @@ def booted(node, slots):
     identifiers = [each and each[0] for each in sent]
     if identifiers != [BOOT_UP + node, EMERGENCY + node, None] or slots[-1][2] != PRE_OPERATIONAL:
         raise Stopped(f"node {node} does not boot into Pre-operational")
+
+
+def answered(node, step, sent):
+    """What a trial shows: the bytes of the position frame that its last step is about, none if it does not leave; else those of an SDO reply."""
+    if step[0] != "sent":
+        return sdo_reply(node, sent)
+    return sent[1] if sent and sent[0] == step[1] + node else b""
 
 
 def sdo_reply(node, sent):

@@ -1,11 +1,17 @@
 /*
  * A model board for the hosts that host/check tries: a sensor that loses the tape now and then, a busy master, and a CAN
- * controller with MAILBOXES mailboxes (from the environment: 1..8; else 3) on a slow bus. A transmission can end in an error or
- * lose the arbitration, and the controller then repeats it. An abort takes some time to come into effect.
- * Each call of the board takes time, so that a turn of the host's loop takes more than a millisecond. After 200 gaps the
- * board writes one line of counts and ends the program:
+ * controller on a slow bus. A transmission can end in an error or lose the arbitration, and the controller then repeats it. An
+ * abort takes some time to come into effect. Each call of the board takes time, so that a turn of the host's loop takes more than
+ * a millisecond. Words of the environment: MAILBOXES, 1..8, else 3; TPDO1 and TPDO2, the types that the master gives to the PDOs,
+ * 1..240, 254 or 255, else 254 and 2.
+ * After 200 gaps the board writes one line, the three words and counts, and ends the program. "In a gap" means after the host lent a
+ * missing sample and before it took the next good one. A SYNC PDO is one of types 1 to 240.
  *   positions   transmissions of position frames that began, repeated ones too
- *   late        of these, after the host lent a missing sample and before the next good one
+ *   kept        frames of SYNC PDOs that were sent in a gap
+ *   late        position frames that began in a gap; those of SYNC PDOs only if the emergency "missing" of the gap was sent before
+ *   stale       position frames handed over that carry another position than the last sample taken; for SYNC PDOs than the last one
+ *               taken before the last due SYNC, or that came without one
+ *   dropped     frames of SYNC PDOs that the host aborted, or that still waited for a slot at the end of a gap
  *   overtaken   transmissions that began while a frame handed over earlier was still pending
  *   lost        frames that the host aborted and that were no position frames
  *   unlent      samples that were no position, and for which the host lent no missing one before it took the next sample
@@ -40,22 +46,39 @@ enum {
     IDENTIFIERS = 0x800,
     EMERGENCY = 0x081,
     POSITION_LENGTH = 4, /* of no other frame of the head */
+    MOST_SYNCS = 240,    /* the greatest type that goes by SYNC */
 };
 
 #define REQUEST(...) {.identifier = 0x601, .length = 8, .bytes = {__VA_ARGS__}}
 
-/* How the master starts the head: heartbeat and position frames come often, these with the lowest and the highest identifier. */
-static const struct {
-    uint32_t at_ms;
-    haybleater_received frame;
-} starting[] = {
-    {20, REQUEST(0x2B, 0x17, 0x10, 0x00, 10)},                     /* 1017h: heartbeat each 10 ms */
-    {40, REQUEST(0x2B, 0x00, 0x18, 0x05, 1)},                      /* 1800-5: TPDO1, 181h, each ms */
-    {60, REQUEST(0x23, 0x01, 0x18, 0x01, 0x7F, 0x05, 0x00, 0x80)}, /* 1801-1: TPDO2 off, 57Fh */
-    {80, REQUEST(0x23, 0x01, 0x18, 0x01, 0x7F, 0x05, 0x00, 0x00)}, /* 1801-1: TPDO2 on, at each SYNC */
-    {100, {.identifier = 0x000, .length = 2, .bytes = {0x01, 0x01}}},
+/* How the master starts the head, a frame each START_MS: heartbeat and position frames come often, these with extreme identifiers. */
+enum { START_MS = 20, SETS_TYPE_1 = 2, SETS_TYPE_2 = 6 };
+static haybleater_received starting[] = {
+    REQUEST(0x2B, 0x17, 0x10, 0x00, 10),                     /* 1017h: heartbeat each 10 ms */
+    REQUEST(0x23, 0x00, 0x18, 0x01, 0x81, 0x01, 0x00, 0x80), /* 1800-1: TPDO1 off, 181h */
+    [SETS_TYPE_1] = REQUEST(0x2F, 0x00, 0x18, 0x02),         /* 1800-2 */
+    REQUEST(0x2B, 0x00, 0x18, 0x05, 1),                      /* 1800-5: each ms, if its type is 254 or 255 */
+    REQUEST(0x23, 0x00, 0x18, 0x01, 0x81, 0x01, 0x00, 0x00), /* 1800-1: TPDO1 on */
+    REQUEST(0x23, 0x01, 0x18, 0x01, 0x7F, 0x05, 0x00, 0x80), /* 1801-1: TPDO2 off, 57Fh */
+    [SETS_TYPE_2] = REQUEST(0x2F, 0x01, 0x18, 0x02),         /* 1801-2 */
+    REQUEST(0x2B, 0x01, 0x18, 0x05, 1),                      /* 1801-5 */
+    REQUEST(0x23, 0x01, 0x18, 0x01, 0x7F, 0x05, 0x00, 0x00), /* 1801-1: TPDO2 on */
+    {.identifier = 0x000, .length = 2, .bytes = {0x01, 0x01}},
 };
+enum { STARTING = sizeof starting / sizeof starting[0] };
 static const haybleater_received read_position = REQUEST(0x40, 0x04, 0x60, 0x00), sync = {.identifier = 0x080};
+
+/* A PDO. If it is a SYNC PDO: whether a SYNC made its frame wait, and with which position. */
+typedef struct {
+    uint32_t identifier;
+    unsigned type;
+    bool waits;
+    uint32_t fixed;
+} pdo;
+
+static pdo tpdo1 = {.identifier = 0x181, .type = 254}, tpdo2 = {.identifier = 0x57F, .type = 2};
+static unsigned syncs;   /* so many were received since the head was started */
+static uint32_t reading; /* the last sample that was a position */
 
 typedef struct {
     haybleater_frame frame;
@@ -74,12 +97,12 @@ static bool loses;
 
 /* The time, and what waits for the host. `missing`: the host has lent a missing sample and got no good one since. */
 static uint32_t now_ms, phase_left_ms, ms_due, samples_due, received_due;
-static size_t started; /* so many frames of `starting` were received */
+static unsigned started; /* so many frames of `starting` were received */
 static bool off_tape, missing;
 static bool owed; /* the sample taken last was no position, and no missing one is lent for it yet */
 
 static struct {
-    unsigned positions, late, overtaken, lost, unlent, empty, behind, gaps, reported, resumed;
+    unsigned positions, late, kept, stale, dropped, overtaken, lost, unlent, empty, behind, gaps, reported, resumed;
 } counts;
 static bool gap_reported, positions_resumed;
 
@@ -92,6 +115,16 @@ static uint32_t random_below(uint32_t limit)
 
 static bool in_100(uint32_t chance) { return random_below(100) < chance; }
 
+/* The PDO of a position frame; none of another frame. */
+static pdo *pdo_of(haybleater_frame frame)
+{
+    if (frame.length != POSITION_LENGTH)
+        return NULL;
+    return frame.identifier == tpdo1.identifier ? &tpdo1 : &tpdo2;
+}
+
+static bool by_sync(const pdo *of) { return of && of->type <= MOST_SYNCS; }
+
 static void count_begun(const mailbox *box)
 {
     for (unsigned i = 0; i < mailboxes; i++) {
@@ -100,17 +133,17 @@ static void count_begun(const mailbox *box)
             break;
         }
     }
-    if (box->frame.length != POSITION_LENGTH)
-        return;
-    counts.positions++;
-    counts.late += missing;
+    const pdo *of = pdo_of(box->frame);
+    counts.positions += of != NULL;
+    counts.late += of && missing && (gap_reported || !by_sync(of));
 }
 
 static void count_sent(haybleater_frame frame)
 {
     bool says_missing = frame.identifier == EMERGENCY && frame.bytes[1] == 0x50;
     gap_reported = gap_reported || (missing && says_missing);
-    positions_resumed = positions_resumed || (!missing && frame.length == POSITION_LENGTH);
+    positions_resumed = positions_resumed || (!missing && pdo_of(frame));
+    counts.kept += missing && by_sync(pdo_of(frame));
 }
 
 /* The controller tries the frame with the lowest identifier first; of two equal ones that in the first mailbox. */
@@ -167,9 +200,10 @@ static void step_aborts(void)
 
 static void finish(void)
 {
-    printf("mailboxes=%u positions=%u late=%u overtaken=%u lost=%u unlent=%u empty=%u behind=%u gaps=%u reported=%u resumed=%u\n",
-           mailboxes, counts.positions, counts.late, counts.overtaken, counts.lost, counts.unlent, counts.empty, counts.behind,
-           counts.gaps, counts.reported, counts.resumed);
+    printf("mailboxes=%u tpdo1=%u tpdo2=%u positions=%u kept=%u late=%u stale=%u dropped=%u overtaken=%u lost=%u unlent=%u empty=%u "
+           "behind=%u gaps=%u reported=%u resumed=%u\n",
+           mailboxes, tpdo1.type, tpdo2.type, counts.positions, counts.kept, counts.late, counts.stale, counts.dropped,
+           counts.overtaken, counts.lost, counts.unlent, counts.empty, counts.behind, counts.gaps, counts.reported, counts.resumed);
     exit(0);
 }
 
@@ -186,6 +220,7 @@ static void change_phase(void)
         gap_reported = false;
     } else {
         counts.reported += gap_reported;
+        counts.dropped += tpdo1.waits + tpdo2.waits;
         positions_resumed = false;
     }
 }
@@ -196,7 +231,7 @@ static void count_waiting(uint32_t due)
         counts.behind = due;
 }
 
-static bool is_started(void) { return started == sizeof starting / sizeof starting[0]; }
+static bool is_started(void) { return started == STARTING; }
 
 static void step_clock(void)
 {
@@ -207,7 +242,7 @@ static void step_clock(void)
     now_ms++;
     count_waiting(++ms_due);
     count_waiting(++samples_due);
-    received_due += is_started() ? random_below(MOST_RECEIVED_IN_MS + 1) : now_ms == starting[started].at_ms;
+    received_due += is_started() ? random_below(MOST_RECEIVED_IN_MS + 1) : now_ms == START_MS * (started + 1);
     count_waiting(received_due);
     if (--phase_left_ms == 0)
         change_phase();
@@ -223,16 +258,29 @@ static void step(void)
     begin_transmission();
 }
 
+/* Sets what a word of the environment gives. */
+static void set(unsigned *setting, const char *word)
+{
+    const char *given = getenv(word);
+    if (given)
+        *setting = (unsigned)strtoul(given, NULL, 10);
+}
+
+static bool is_type(unsigned type) { return (1 <= type && type <= MOST_SYNCS) || type == 254 || type == 255; }
+
 static void start(void)
 {
-    const char *wanted = getenv("MAILBOXES");
-    long count = wanted ? strtol(wanted, NULL, 10) : USUAL_MAILBOXES;
-    if (count < 1 || count > MOST_MAILBOXES) {
-        fprintf(stderr, "board: MAILBOXES is not 1..%d\n", MOST_MAILBOXES);
+    mailboxes = USUAL_MAILBOXES;
+    set(&mailboxes, "MAILBOXES");
+    set(&tpdo1.type, "TPDO1");
+    set(&tpdo2.type, "TPDO2");
+    if (mailboxes < 1 || mailboxes > MOST_MAILBOXES || !is_type(tpdo1.type) || !is_type(tpdo2.type)) {
+        fprintf(stderr, "board: MAILBOXES is not 1..%d, or TPDO1 or TPDO2 not 1..%d, 254 or 255\n", MOST_MAILBOXES, MOST_SYNCS);
         exit(2);
     }
-    mailboxes = (unsigned)count;
-    phase_left_ms = 2 * LEAST_PHASE_MS;
+    starting[SETS_TYPE_1].bytes[4] = (uint8_t)tpdo1.type;
+    starting[SETS_TYPE_2].bytes[4] = (uint8_t)tpdo2.type;
+    phase_left_ms = START_MS * STARTING + LEAST_PHASE_MS;
 }
 
 bool board_millisecond_passed(void)
@@ -256,9 +304,20 @@ bool board_sampled(uint32_t *raw, bool *on_tape)
     counts.unlent += owed;
     owed = off_tape;
     missing = missing && off_tape;
+    if (!off_tape)
+        reading = now_ms;
     *on_tape = !off_tape || in_100(REFUSED_IN_100);
-    *raw = off_tape ? OUT_OF_RANGE : now_ms;
+    *raw = off_tape ? OUT_OF_RANGE : reading;
     return true;
+}
+
+/* A SYNC that is due and finds a good reading fixes the position of the PDO's frame. */
+static void note_sync(pdo *of)
+{
+    if (missing || !by_sync(of) || syncs % of->type != 0)
+        return;
+    of->waits = true;
+    of->fixed = reading;
 }
 
 bool board_can_received(haybleater_received *frame)
@@ -267,10 +326,16 @@ bool board_can_received(haybleater_received *frame)
     if (received_due == 0)
         return false;
     received_due--;
-    if (is_started())
-        *frame = in_100(SYNCS_IN_100) ? sync : read_position;
-    else
-        *frame = starting[started++].frame;
+    if (!is_started()) {
+        *frame = starting[started++];
+    } else if (in_100(SYNCS_IN_100)) {
+        *frame = sync;
+        syncs++;
+        note_sync(&tpdo1);
+        note_sync(&tpdo2);
+    } else {
+        *frame = read_position;
+    }
     return true;
 }
 
@@ -294,9 +359,23 @@ bool board_can_idle(void)
     return true;
 }
 
+static void count_handed_over(haybleater_frame frame)
+{
+    const uint8_t *bytes = frame.bytes;
+    uint32_t position = (uint32_t)bytes[0] | (uint32_t)bytes[1] << 8 | (uint32_t)bytes[2] << 16 | (uint32_t)bytes[3] << 24;
+    pdo *of = pdo_of(frame);
+    counts.empty += frame.length == 0;
+    if (by_sync(of)) {
+        counts.stale += !of->waits || position != of->fixed;
+        of->waits = false;
+    } else if (of) {
+        counts.stale += position != reading;
+    }
+}
+
 void board_can_send(haybleater_frame frame)
 {
-    counts.empty += frame.length == 0;
+    count_handed_over(frame);
     for (unsigned i = 0; i < mailboxes; i++) {
         if (boxes[i].held)
             continue;
@@ -313,7 +392,8 @@ void board_can_request_abort(void)
         mailbox *box = &boxes[i];
         if (!box->held || box->aborted || box->abort_steps > 0)
             continue;
-        counts.lost += box->frame.length != POSITION_LENGTH;
+        counts.lost += !pdo_of(box->frame);
+        counts.dropped += by_sync(pdo_of(box->frame));
         box->abort_steps = 1 + random_below(MOST_ABORT_STEPS);
     }
 }

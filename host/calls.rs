@@ -5,9 +5,9 @@ use std::mem::MaybeUninit;
 
 #[cfg(not(by_pointer))]
 use head::{
-    haybleater_good as good, haybleater_missing as missing, haybleater_position as position, haybleater_power_up as power_up,
-    haybleater_receive as receive, haybleater_sample as sample, haybleater_slot as slot, haybleater_state as state, haybleater_tick as tick,
-    haybleater_waits as waits,
+    haybleater_goes_if_missing as goes_if_missing, haybleater_good as good, haybleater_missing as missing, haybleater_position as position,
+    haybleater_power_up as power_up, haybleater_receive as receive, haybleater_sample as sample, haybleater_slot as slot,
+    haybleater_state as state, haybleater_tick as tick, haybleater_waits as waits,
 };
 
 #[cfg(by_pointer)]
@@ -34,11 +34,15 @@ mod by_pointer {
     pub unsafe fn good(head: *const Head) -> bool { answer(|good| haybleater_at_good(head, good)) }
     pub unsafe fn position(head: *const Head) -> Located { answer(|located| haybleater_at_position(head, located)) }
     pub unsafe fn waits(head: *const Head) -> bool { answer(|waits| haybleater_at_waits(head, waits)) }
+    pub unsafe fn goes_if_missing(head: *const Head) -> bool { answer(|goes| haybleater_at_goes_if_missing(head, goes)) }
 }
 
 const NODE: u8 = 5;
 const RAW: u32 = 69637;
+const POSITION: [u8; 8] = [0x05, 0x10, 0x01, 0x00, 0, 0, 0, 0];
 const PRE_OPERATIONAL: u8 = 0x7F;
+const START: Received = Received { bytes: [0x01, NODE, 0, 0, 0, 0, 0, 0], identifier: 0x000, extended: false, remote: false, length: 2 };
+const SYNC: Received = Received { bytes: [0; 8], identifier: 0x080, extended: false, remote: false, length: 0 };
 const READ_POSITION: [u8; 8] = [0x40, 0x04, 0x60, 0x00, 0, 0, 0, 0];
 const SERIAL: u32 = 0x1234_5678;
 const READ_SERIAL: [u8; 8] = [0x40, 0x18, 0x10, 0x04, 0, 0, 0, 0];
@@ -85,8 +89,12 @@ fn main() {
         let Located { known, position: at } = position(head);
         assert_eq!((known, at), (true, RAW));
         tick(head);
+        assert_eq!((receive(head, START), waits(head), goes_if_missing(head)), (0, true, true));
+        assert_eq!(next_frame(head), Some((0x185, 4, POSITION)));
+        assert_eq!((receive(head, SYNC), waits(head), goes_if_missing(head)), (0, true, false));
         missing(head);
         assert_eq!((position(head).known, good(head), waits(head)), (false, false, true));
+        assert_eq!(next_frame(head), Some((0x285, 4, POSITION)));
         assert_eq!(next_frame(head), Some((0x085, 8, [0x00, 0x50, 0x01, 0, 0, 0, 0, 0])));
         assert!(is_position(0x180 + u32::from(NODE)) && !is_position(0x580 + u32::from(NODE)));
         assert_eq!(next_frame(head), None);

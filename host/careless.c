@@ -6,6 +6,9 @@
  *   late       lends the missing sample first and aborts afterwards
  *   trusting   ignores that a sample is refused, and lends no missing one for it
  *   blind      sends what a slot answers, and does not ask whether a frame waited
+ *   sweeping   aborts every position frame when the tape is lost, also one with the position of its SYNC
+ *   tardy      asks whether a missing sample takes the frame back when the slot has already taken it from the head
+ *   dawdling   lends a received frame only when the next one comes
  */
 #include "board.h"
 
@@ -13,11 +16,11 @@
 #include <stdlib.h>
 #include <string.h>
 
-enum { FILLS_MAILBOXES, HASTY, LATE, TRUSTING, BLIND, FAULTS };
-static const char *const words[FAULTS] = {"", "hasty", "late", "trusting", "blind"};
+enum { FILLS_MAILBOXES, HASTY, LATE, TRUSTING, BLIND, SWEEPING, TARDY, DAWDLING, FAULTS };
+static const char *const words[FAULTS] = {"", "hasty", "late", "trusting", "blind", "sweeping", "tardy", "dawdling"};
 static unsigned fault = FILLS_MAILBOXES;
 static haybleater_head head;
-static uint32_t handed_over;
+static bool goes_if_missing;
 
 static void choose_fault(void)
 {
@@ -28,19 +31,22 @@ static void choose_fault(void)
         if (strcmp(word, words[fault]) == 0)
             return;
     }
-    fprintf(stderr, "careless: CARELESS is none of hasty, late, trusting and blind\n");
+    fprintf(stderr, "careless: CARELESS is none of");
+    for (fault = HASTY; fault < FAULTS; fault++)
+        fprintf(stderr, " %s", words[fault]);
+    fprintf(stderr, "\n");
     exit(2);
 }
 
 static void lose_position(void)
 {
-    bool pending = haybleater_is_position(handed_over);
-    if (fault == HASTY && pending)
+    bool aborts_first = fault != FILLS_MAILBOXES && fault != HASTY && fault != LATE;
+    if (fault == HASTY && goes_if_missing)
         board_can_request_abort();
-    if ((fault == TRUSTING || fault == BLIND) && pending)
+    if (aborts_first && goes_if_missing)
         board_can_abort();
     haybleater_missing(&head);
-    if (fault == LATE && pending)
+    if (fault == LATE && goes_if_missing)
         board_can_abort();
 }
 
@@ -55,6 +61,24 @@ static bool may_send(void)
 {
     bool may_hand_over = fault == FILLS_MAILBOXES ? board_can_has_room() : board_can_idle();
     return may_hand_over && (fault == BLIND || haybleater_waits(&head));
+}
+
+static void receive(haybleater_received frame)
+{
+    static haybleater_received before = {.identifier = 0x7FF}; /* not meant for the head */
+    haybleater_receive(&head, fault == DAWDLING ? before : frame);
+    before = frame;
+}
+
+static void send_next(void)
+{
+    goes_if_missing = haybleater_goes_if_missing(&head);
+    haybleater_frame frame = haybleater_slot(&head).frame;
+    if (fault == TARDY)
+        goes_if_missing = haybleater_goes_if_missing(&head);
+    if (fault == SWEEPING)
+        goes_if_missing = haybleater_is_position(frame.identifier);
+    board_can_send(frame);
 }
 
 int main(void)
@@ -75,11 +99,8 @@ int main(void)
         while (board_sampled(&raw, &on_tape))
             take_sample(raw, on_tape);
         while (board_can_received(&received))
-            haybleater_receive(&head, received);
-        while (may_send()) {
-            haybleater_frame frame = haybleater_slot(&head).frame;
-            handed_over = frame.identifier;
-            board_can_send(frame);
-        }
+            receive(received);
+        while (may_send())
+            send_next();
     }
 }

@@ -1,6 +1,7 @@
 /*
  * Lets another program drive the linked head, to compare it with the reference: reads calls of 24 bytes from standard input
  * and writes a 24-byte answer for each to standard output, until the end of input. Numbers are low byte first, unused bytes 0.
+ * After each call it asks the head what a missing sample would take back, and fails if a copy of the head does otherwise.
  *
  * Call: [0] which
  *   P  power-up: [1] node, [4..8] vendor, [8..12] product, [12..16] revision, [16..20] serial; with the names that N gave
@@ -99,6 +100,26 @@ static void do_call(const uint8_t *call, uint8_t *answer)
     }
 }
 
+static unsigned frames_left(haybleater_head head)
+{
+    unsigned frames = 0;
+    while (haybleater_slot(&head).waited)
+        frames++;
+    return frames;
+}
+
+/* Whether a missing sample takes back the position frame of the next slot: it then leaves as many frames as if that one had been sent. */
+static bool is_taken_back(haybleater_head head)
+{
+    haybleater_head after = head;
+    haybleater_outgoing next = haybleater_slot(&after);
+    if (!next.waited || !haybleater_is_position(next.frame.identifier))
+        return false;
+    haybleater_missing(&head);
+    haybleater_missing(&after);
+    return frames_left(head) == frames_left(after);
+}
+
 static void answer_call(const uint8_t *call, uint8_t *answer)
 {
     memset(answer, 0, RECORD);
@@ -107,6 +128,8 @@ static void answer_call(const uint8_t *call, uint8_t *answer)
     haybleater_located here = haybleater_position(&present);
     if (here.known != good || (!here.known && here.position != 0))
         fail("a position is known exactly while the reading is good, and 0 otherwise");
+    if (haybleater_goes_if_missing(&present) != is_taken_back(present))
+        fail("a missing sample takes back otherwise than the head says");
     answer[2] = haybleater_state(&present);
     answer[3] = (uint8_t)(good | haybleater_waits(&present) << 1);
     put_number(answer + 16, here.position);

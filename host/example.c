@@ -2,14 +2,16 @@
  * A host with the head of node 1, which plays the rest of the bus too: 130 ms, of which the tape is lost for 50. At 112 ms the master reads
  * the name that the head was given at power-up: the reply tells its size, and two segments bring its ten bytes.
  * A line is the time in ms and the frame that goes out on the bus then: identifier, length, bytes. `--` says what happened.
- * The CAN controller is a model with one mailbox. Other nodes keep the bus busy from 42 ms to 48 ms, and the tape is lost
- * at 45 ms: the position frame of 43 ms is still in the mailbox then, and the host withdraws it.
+ * The CAN controller is a model with one mailbox. Other nodes keep the bus busy from 42 ms to 48 ms, and the tape is lost at 46 ms.
+ * The frame 181h of 43 ms is still in the mailbox then. It has the position of its slot (TPDO1, type 254): the host withdraws it.
+ * The frame 281h waits since the SYNC of 44 ms and has the position at that SYNC (TPDO2, type 1): no sample changes it, and it goes
+ * out when the bus is free, before the emergency.
  */
 #include "haybleater.h"
 
 #include <stdio.h>
 
-enum { END_MS = 130, LOST_FROM_MS = 45, LOST_UNTIL_MS = 95, BUSY_FROM_MS = 42, BUSY_UNTIL_MS = 48 };
+enum { END_MS = 130, LOST_FROM_MS = 46, LOST_UNTIL_MS = 96, BUSY_FROM_MS = 42, BUSY_UNTIL_MS = 48 };
 
 /* What the master sends, and when. Of the requests, bytes that are not given are 0. */
 static const struct {
@@ -21,6 +23,7 @@ static const struct {
     {2, "TPDO1 each 20 ms (1800-5)", {.identifier = 0x601, .length = 8, .bytes = {0x2B, 0x00, 0x18, 0x05, 20}}},
     {3, "start: Operational", {.identifier = 0x000, .length = 2, .bytes = {0x01, 0x01}}},
     {30, "SYNC", {.identifier = 0x080, .length = 0}},
+    {44, "SYNC", {.identifier = 0x080, .length = 0}},
     {60, "read the position (6004h)", {.identifier = 0x601, .length = 8, .bytes = {0x40, 0x04, 0x60, 0x00}}},
     {70, "SYNC", {.identifier = 0x080, .length = 0}},
     {110, "read the position (6004h)", {.identifier = 0x601, .length = 8, .bytes = {0x40, 0x04, 0x60, 0x00}}},
@@ -38,9 +41,9 @@ static void show(uint32_t now_ms, haybleater_frame frame)
     printf("\n");
 }
 
-/* The CAN controller: the frame in its mailbox is pending until the bus is free. */
+/* The CAN controller: the frame in its mailbox is pending until the bus is free. A missing sample may take the frame back. */
 static struct {
-    bool pending;
+    bool pending, goes_if_missing;
     haybleater_frame frame;
 } controller;
 
@@ -53,10 +56,10 @@ static void run_bus(uint32_t now_ms)
     controller.pending = false;
 }
 
-/* A position frame that is pending would go out in the gap: it is withdrawn before the missing sample is lent. */
+/* A pending frame with the position of its slot would go out in the gap: it is withdrawn before the missing sample is lent. */
 static void lose_position(haybleater_head *head, uint32_t now_ms)
 {
-    if (controller.pending && haybleater_is_position(controller.frame.identifier)) {
+    if (controller.pending && controller.goes_if_missing) {
         controller.pending = false;
         printf("%3u  -- withdrawn: %03X\n", (unsigned)now_ms, (unsigned)controller.frame.identifier);
     }
@@ -97,6 +100,7 @@ static void send_all(haybleater_head *head, uint32_t now_ms)
 {
     run_bus(now_ms);
     while (!controller.pending && haybleater_waits(head)) {
+        controller.goes_if_missing = haybleater_goes_if_missing(head); /* asked before the slot takes the frame from the head */
         controller.frame = haybleater_slot(head).frame;
         controller.pending = true;
         run_bus(now_ms);

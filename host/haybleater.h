@@ -9,8 +9,16 @@
  *   - haybleater_sample or haybleater_missing for each sample of the sensor;
  *   - haybleater_slot when its CAN controller holds no frame of the head; it sends `frame` exactly if `waited`.
  *
- * Blank is not zero. Before the first sample and after haybleater_missing there is no position: no position frame is
- * sent, entry 6004h aborts with 0800 0024h, and haybleater_position answers `known` false. The 0 beside it is no position.
+ * Blank is not zero. Before the first sample and after haybleater_missing there is no position: none is taken for a frame,
+ * entry 6004h aborts with 0800 0024h, and haybleater_position answers `known` false. The 0 beside it is no position.
+ *
+ * Position frames, TPDO1 and TPDO2. The type of the PDO (1800-2, 1801-2) says which position a frame carries:
+ *   - types 254 and 255: that of the slot, by the last sample lent before it. haybleater_missing withdraws a frame that waits;
+ *   - types 1 to 240: that of its SYNC, by the last sample lent before it. A due SYNC with a good reading makes the frame wait
+ *     and fixes its position. The next one fixes it anew if the frame still waits, and the frame keeps its place. Nothing else
+ *     changes a fixed position, neither a sample nor a write. haybleater_missing leaves the frame: it may be sent in the gap.
+ *     A due SYNC in the gap is passed over.
+ * So no frame leaves the head with a position taken while the reading was missing.
  *
  * Frames in flight. What is proved ends at haybleater_slot: a frame that waits in a mailbox of the CAN controller has left
  * the head. So that a gap arrives as a gap on the wire too, the host owes two things more:
@@ -18,7 +26,8 @@
  *     may swap their frames: "missing" and "good" then arrive in the wrong order, or a heartbeat is held back. Nor may two
  *     frames wait in a FIFO;
  *   - before it calls haybleater_missing, also because a sample was refused, it aborts the pending frame in the controller
- *     if that is a position frame (haybleater_is_position).
+ *     if haybleater_goes_if_missing was true directly before the slot that answered it: a position frame of types 254 and 255.
+ *     It leaves every other frame alone, also a position frame of types 1 to 240.
  * The abort has to be in effect before haybleater_missing is called: no transmission of the frame can begin any more. One that
  * has begun cannot be withdrawn. It was begun before the missing sample, and the abort keeps the controller from repeating it
  * after an error or a lost arbitration. host/README.md says how to wait for it.
@@ -26,8 +35,8 @@
  * What is proved: for every argument, refused ones too, a call's answer and the head that it leaves are determined by its
  * contract in crates/lent/src/lib.rt; each call ends, and leaves a head that every call can be made with.
  * It is proved of the source. The compiler that makes the archive is trusted; that C and the archive agree on the layout is
- * tested, by the checks below and by host/layout.c. That a host which does the duties above sends no position in a gap is
- * tested too, with a model of a CAN controller: host/board.c.
+ * tested, by the checks below and by host/layout.c. That a host which does the duties above begins no frame of types 254 and 255
+ * in a gap, and drops none of types 1 to 240, is tested too, with a model of a CAN controller: host/board.c.
  * What the caller has to see to:
  *   - the pointer is to a haybleater_head, aligned as the type asks, that haybleater_power_up made and calls altered;
  *   - nobody else reads or writes that head during a call: one thread at a time, and no interrupt in between. An interrupt
@@ -67,7 +76,7 @@ extern "C" {
  * ones. A whole head may be copied by assignment; the copy is another head.
  */
 typedef struct {
-    uint32_t private_to_haybleater[72];
+    uint32_t private_to_haybleater[74];
 } haybleater_head;
 
 /*
@@ -153,7 +162,8 @@ typedef struct {
 
 /*
  * Whether a frame of the head is a position frame, by its identifier: no other frame of the head has one of these. It is
- * proved of every head: Gap.known in crates/promises. A host asks it of the frame that its CAN controller still holds.
+ * proved of every head: Gap.known in crates/promises. It does not say which type the PDO has; what to abort before a missing
+ * sample, haybleater_goes_if_missing says.
  */
 static inline bool haybleater_is_position(uint32_t identifier)
 {
@@ -190,6 +200,7 @@ HAYBLEATER_CALL uint8_t haybleater_power_up(haybleater_head *head, haybleater_se
  * A frame was received. Refuses with HAYBLEATER_BAD_IDENTIFIER or HAYBLEATER_BAD_LENGTH, in every state, what no classical
  * frame can carry: the head is unchanged. These are ignored, with answer 0: 29-bit and remote frames, frames of other nodes or
  * lengths, SYNC outside of Operational, requests in Stopped or while a reply waits, and every frame in Initialising.
+ * A SYNC takes the position of the last sample lent before it: it is to be lent soon, and before any later sample.
  */
 HAYBLEATER_CALL uint8_t haybleater_receive(haybleater_head *head, haybleater_received frame);
 
@@ -198,14 +209,14 @@ HAYBLEATER_CALL void haybleater_tick(haybleater_head *head);
 
 /*
  * The sensor gave a raw position, in steps of 5,000 nm. Refuses one above 1,048,575 with HAYBLEATER_BAD_SAMPLE: the head
- * is unchanged, so the sample before still holds. A host to which such a number means "off the tape" calls haybleater_missing,
- * and aborts a pending position frame before.
+ * is unchanged, so the sample before still holds. A host to which such a number means "off the tape" does what it does for a
+ * lost tape: it aborts a pending frame of types 254 and 255 and calls haybleater_missing.
  */
 HAYBLEATER_CALL uint8_t haybleater_sample(haybleater_head *head, uint32_t raw);
 
 /*
- * The sensor gave no position. Position frames that wait in the head are withdrawn; the host aborts the one that is pending
- * in its CAN controller before this call.
+ * The sensor gave no position. Position frames of types 254 and 255 that wait in the head are withdrawn; the host aborts the one
+ * that is pending in its CAN controller before this call. Those of types 1 to 240 keep their places and their positions.
  */
 HAYBLEATER_CALL void haybleater_missing(haybleater_head *head);
 
@@ -227,6 +238,14 @@ HAYBLEATER_CALL haybleater_located haybleater_position(const haybleater_head *he
 /* Whether a frame waits: whether the next slot answers one. */
 HAYBLEATER_CALL bool haybleater_waits(const haybleater_head *head);
 
+/*
+ * Whether the next slot answers a position frame that a missing sample would take back: one of types 254 and 255. False if it
+ * answers one of types 1 to 240, whose position its SYNC fixed, or another frame, or none.
+ * To be asked directly before the slot. The answer holds for that frame as long as it is pending in the CAN controller, whatever
+ * is called meanwhile.
+ */
+HAYBLEATER_CALL bool haybleater_goes_if_missing(const haybleater_head *head);
+
 #if HAYBLEATER_BY_POINTER
 /* The exports of an archive of host/cross. Each pointer is to a whole, aligned object of its type, and no two overlap. */
 void haybleater_at_power_up(haybleater_head *head, const haybleater_setup *setup, uint8_t *refusal);
@@ -239,6 +258,7 @@ void haybleater_at_state(const haybleater_head *head, uint8_t *state);
 void haybleater_at_good(const haybleater_head *head, bool *good);
 void haybleater_at_position(const haybleater_head *head, haybleater_located *located);
 void haybleater_at_waits(const haybleater_head *head, bool *waits);
+void haybleater_at_goes_if_missing(const haybleater_head *head, bool *goes);
 
 static inline uint8_t haybleater_power_up(haybleater_head *head, haybleater_setup setup)
 {
@@ -305,6 +325,13 @@ static inline bool haybleater_waits(const haybleater_head *head)
     haybleater_at_waits(head, &waits);
     return waits;
 }
+
+static inline bool haybleater_goes_if_missing(const haybleater_head *head)
+{
+    bool goes;
+    haybleater_at_goes_if_missing(head, &goes);
+    return goes;
+}
 #endif
 #undef HAYBLEATER_CALL
 
@@ -328,7 +355,7 @@ static inline bool haybleater_waits(const haybleater_head *head)
 
 HAYBLEATER_CHECK(size_of_bool, sizeof(bool) == 1);
 
-HAYBLEATER_CHECK_SHAPE(head, 288, 4);
+HAYBLEATER_CHECK_SHAPE(head, 296, 4);
 
 HAYBLEATER_CHECK_SHAPE(name, 33, 1);
 HAYBLEATER_CHECK_FIELD(name, bytes, 0);

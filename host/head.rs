@@ -1,4 +1,4 @@
-#[repr(C)] pub struct Head([u32; 72]); // private; made by haybleater_power_up alone
+#[repr(C)] pub struct Head([u32; 74]); // private; made by haybleater_power_up alone
 #[repr(C)] #[derive(Clone, Copy)] pub struct Name { pub bytes: [u8; 32], pub length: u8 } // bytes from `length` on are ignored
 #[repr(C)] #[derive(Clone, Copy)] pub struct Identity {
     pub vendor: u32, pub product: u32, pub revision: u32, pub serial: u32, // 1018h
@@ -21,6 +21,7 @@ extern "C" { // the archive of `rt staticlib lent`; in edition 2024: unsafe exte
     pub fn haybleater_good(head: *const Head) -> bool;
     pub fn haybleater_position(head: *const Head) -> Located;
     pub fn haybleater_waits(head: *const Head) -> bool;
+    pub fn haybleater_goes_if_missing(head: *const Head) -> bool;
 }
 
 extern "C" { // archives of host/cross: each pointer is to a whole object, and no two overlap
@@ -34,6 +35,7 @@ extern "C" { // archives of host/cross: each pointer is to a whole object, and n
     pub fn haybleater_at_good(head: *const Head, good: *mut bool);
     pub fn haybleater_at_position(head: *const Head, located: *mut Located);
     pub fn haybleater_at_waits(head: *const Head, waits: *mut bool);
+    pub fn haybleater_at_goes_if_missing(head: *const Head, goes: *mut bool);
 }
 
 /// The name that a string spells. Power-up refuses an empty one and one of more than 32 bytes; none is cut.

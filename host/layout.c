@@ -53,6 +53,8 @@ static const struct {
 #define REPLY(...) SENT(0x585, 8, __VA_ARGS__)
 #define NOTHING {.waited = false}
 
+static const haybleater_received start = {.identifier = 0x000, .length = 2, .bytes = {0x01, 5}}, sync = {.identifier = 0x080};
+
 /* A frame for node 5 in Pre-operational, what receiving it answers and what the slot after it sends. */
 static const struct {
     const char *what;
@@ -118,13 +120,14 @@ static void expect_exchange(haybleater_received hears, uint8_t refusal, haybleat
     expect_slot(outgoing, when);
 }
 
-static void expect_answers(uint8_t state, bool good, bool waits, haybleater_located at, const char *when)
+static void expect_answers(uint8_t state, bool good, bool waits, bool goes, haybleater_located at, const char *when)
 {
     haybleater_head before = memory.head;
     haybleater_located got = haybleater_position(&memory.head);
     expect(haybleater_state(&memory.head) == state, "state", when);
     expect(haybleater_good(&memory.head) == good, "good", when);
     expect(haybleater_waits(&memory.head) == waits, "waits", when);
+    expect(haybleater_goes_if_missing(&memory.head) == goes, "goes_if_missing", when);
     expect(got.known == at.known, "located.known", when);
     expect(got.position == at.position, "located.position", when);
     expect(memcmp(&before, &memory.head, sizeof before) == 0, "a question alters nothing", when);
@@ -209,24 +212,40 @@ static void check_refused_power_ups(void)
     }
 }
 
+/* From here on the head is Operational. TPDO1 has type 254, TPDO2 has type 1. */
+static void check_positions(void)
+{
+    const haybleater_located nowhere = {.known = false}, here = {.known = true, .position = 69637}, there = {.known = true, .position = 70000};
+    expect_refusal(haybleater_receive(&memory.head, start), HAYBLEATER_NO_REFUSAL, "start");
+    expect_answers(HAYBLEATER_OPERATIONAL, true, true, true, here, "TPDO1 waits");
+    expect_slot((haybleater_outgoing)SENT(0x185, 4, 0x05, 0x10, 0x01), "TPDO1");
+    expect_refusal(haybleater_receive(&memory.head, sync), HAYBLEATER_NO_REFUSAL, "SYNC");
+    expect_answers(HAYBLEATER_OPERATIONAL, true, true, false, here, "TPDO2 waits");
+    expect_refusal(haybleater_sample(&memory.head, 70000), HAYBLEATER_NO_REFUSAL, "sample after a SYNC");
+    expect_answers(HAYBLEATER_OPERATIONAL, true, true, false, there, "TPDO2 waits, another sample");
+    haybleater_missing(&memory.head);
+    expect_answers(HAYBLEATER_OPERATIONAL, false, true, false, nowhere, "TPDO2 waits, a missing sample");
+    expect_slot((haybleater_outgoing)SENT(0x285, 4, 0x05, 0x10, 0x01), "TPDO2 with the position at its SYNC");
+    expect_answers(HAYBLEATER_OPERATIONAL, false, true, false, nowhere, "the emergency waits");
+}
+
 static void check_calls(void)
 {
     const haybleater_located nowhere = {.known = false}, here = {.known = true, .position = 69637};
-    expect_answers(HAYBLEATER_INITIALISING, false, true, nowhere, "after power-up");
+    expect_answers(HAYBLEATER_INITIALISING, false, true, false, nowhere, "after power-up");
     expect_slot((haybleater_outgoing)SENT(0x705, 1, 0x00), "boot-up frame");
     expect_slot((haybleater_outgoing)SENT(0x085, 8, 0x00, 0x50, 0x01), "emergency");
     expect_slot((haybleater_outgoing)NOTHING, "slot when nothing waits");
-    expect_answers(HAYBLEATER_PRE_OPERATIONAL, false, false, nowhere, "before the first sample");
+    expect_answers(HAYBLEATER_PRE_OPERATIONAL, false, false, false, nowhere, "before the first sample");
     expect_refusal(haybleater_sample(&memory.head, 69637), HAYBLEATER_NO_REFUSAL, "sample");
     expect_refusal(haybleater_sample(&memory.head, 1048576), HAYBLEATER_BAD_SAMPLE, "sample out of range");
-    expect_answers(HAYBLEATER_PRE_OPERATIONAL, true, true, here, "after a sample");
+    expect_answers(HAYBLEATER_PRE_OPERATIONAL, true, true, false, here, "after a sample");
     expect_slot((haybleater_outgoing)SENT(0x085, 8, 0x00), "emergency of a good reading");
     check_frames();
     check_names();
     haybleater_tick(&memory.head);
-    expect_answers(HAYBLEATER_PRE_OPERATIONAL, true, false, here, "after a tick");
-    haybleater_missing(&memory.head);
-    expect_answers(HAYBLEATER_PRE_OPERATIONAL, false, true, nowhere, "after a missing sample");
+    expect_answers(HAYBLEATER_PRE_OPERATIONAL, true, false, false, here, "after a tick");
+    check_positions();
     check_refused_power_ups();
 }
 

@@ -2,12 +2,12 @@
 #include "board.h" /* your drivers */
 
 static haybleater_head head; /* any memory of yours; what it held is not read */
-static uint32_t handed_over; /* the identifier of the frame that the CAN controller got last */
+static bool goes_if_missing; /* whether a missing sample takes back the frame that the CAN controller got last */
 
-/* The sensor gave no position: a position frame that is still pending must not go out. */
+/* The sensor gave no position: a frame with the position of its slot must not go out any more, one with that of its SYNC may. */
 static void lose_position(void)
 {
-    if (haybleater_is_position(handed_over))
+    if (goes_if_missing)
         board_can_abort();
     haybleater_missing(&head);
 }
@@ -23,9 +23,8 @@ static void send_next(void)
 {
     if (!board_can_idle() || !haybleater_waits(&head))
         return;
-    haybleater_frame frame = haybleater_slot(&head).frame;
-    handed_over = frame.identifier;
-    board_can_send(frame);
+    goes_if_missing = haybleater_goes_if_missing(&head); /* asked before the slot takes the frame from the head */
+    board_can_send(haybleater_slot(&head).frame);
 }
 
 int main(void)

@@ -43,11 +43,14 @@ static haybleater_received write_1017 = REQUEST(0x2B, 0x17, 0x10, 0, 0xF4, 0x01,
                            write_6003 = REQUEST(0x23, 0x03, 0x60, 0, 40, 0, 0, 0), write_6000 = REQUEST(0x2B, 0x00, 0x60, 0, 1, 0, 0, 0),
                            save = REQUEST(0x23, 0x10, 0x10, 1, 's', 'a', 'v', 'e'), load = REQUEST(0x23, 0x11, 0x10, 1, 'l', 'o', 'a', 'd');
 static const haybleater_received each_second = REQUEST(0x2B, 0x17, 0x10, 0, 0xE8, 0x03, 0, 0), each_tick = REQUEST(0x2B, 0x17, 0x10, 0, 1, 0, 0, 0),
-                                 tpdo1_each_tick = REQUEST(0x2B, 0x00, 0x18, 5, 1, 0, 0, 0);
+                                 tpdo1_each_tick = REQUEST(0x2B, 0x00, 0x18, 5, 1, 0, 0, 0),
+                                 tpdo2_off = REQUEST(0x23, 0x01, 0x18, 1, 0x81, 0x02, 0, 0x80),
+                                 tpdo2_each_second_sync = REQUEST(0x2F, 0x01, 0x18, 2, 2, 0, 0, 0),
+                                 tpdo2_on = REQUEST(0x23, 0x01, 0x18, 1, 0x81, 0x02, 0, 0);
 
 /* The heads before the calls, as docs/BENCHMARKS.md has them. */
 static haybleater_head initialising, pre_operational, operational, busy, full, announced, with_pdos, synced, lost, asked, beating, started, uploading,
-                       ending;
+                       ending, counting_syncs;
 static union {
     uint8_t byte;
     haybleater_outgoing outgoing;
@@ -69,10 +72,12 @@ static const struct {
     {"sample-good-again", EXPORT(sample), &operational, &other_raw, 0},
     {"good-after-missing", EXPORT(sample), &announced, &raw, 1},
     {"missing-after-good", EXPORT(missing), &operational, NULL, 1},
-    {"missing-takes-pdos", EXPORT(missing), &with_pdos, NULL, 3},
-    {"missing-full-line", EXPORT(missing), &full, NULL, 2},
+    {"missing-takes-pdos", EXPORT(missing), &with_pdos, NULL, 4},
+    {"missing-keeps-tpdo2", EXPORT(missing), &synced, NULL, 2},
+    {"missing-full-line", EXPORT(missing), &full, NULL, 3},
     {"foreign-frame", EXPORT(receive), &operational, &foreign, 0},
     {"sync", EXPORT(receive), &operational, &sync, 1},
+    {"sync-not-due", EXPORT(receive), &counting_syncs, &sync, 0},
     {"sync-full-line", EXPORT(receive), &full, &sync, 5},
     {"nmt-present-state", EXPORT(receive), &operational, &start, 0},
     {"nmt-operational", EXPORT(receive), &pre_operational, &start, 1},
@@ -106,6 +111,7 @@ static const struct {
     {"good", EXPORT(good), &operational, &answer, 0},
     {"position", EXPORT(position), &operational, &answer, 0},
     {"waits", EXPORT(waits), &operational, &answer, 0},
+    {"goes-if-missing", EXPORT(goes_if_missing), &started, &answer, 1},
 };
 
 /* The head after a frame, and after a slot that sends what it brought. */
@@ -142,6 +148,7 @@ static void prepare(void)
     beating = ticked(sent(heard(pre_operational, each_tick)));
     operational = sent(heard(sent(heard(pre_operational, each_second)), start));
     synced = heard(operational, sync);
+    counting_syncs = sent(heard(sent(heard(sent(heard(operational, tpdo2_off)), tpdo2_each_second_sync)), tpdo2_on));
     asked = heard(operational, read_6004);
     uploading = sent(heard(operational, read_1008));
     ending = sent(heard(uploading, segment));

@@ -1,4 +1,4 @@
-; The ten calls as the kit writes them: the head of each function of the crate `lent`, which takes structures by pointer and gets the place
+; The eleven calls as the kit writes them: the head of each function of the crate `lent`, which takes structures by pointer and gets the place
 ; of a greater answer first, and its export, which takes and answers as C does on x86-64 Linux. host/cross compares the module with these
 ; lines. They show what each pointer of the calls in pointer.ll means; a kit that writes others is refused.
 define internal noundef zeroext i1 @"lent::haybleater_good"(ptr noundef %a0) #0 {
@@ -11,6 +11,7 @@ define internal void @"lent::haybleater_tick"(ptr noundef %a0) #0 {
 define internal void @"lent::haybleater_position"(ptr noundef %a0, ptr noundef %a1) #0 {
 define internal noundef i8 @"lent::haybleater_state"(ptr noundef %a0) #0 {
 define internal noundef zeroext i1 @"lent::haybleater_waits"(ptr noundef %a0) #0 {
+define internal noundef zeroext i1 @"lent::haybleater_goes_if_missing"(ptr noundef %a0) #0 {
 define noundef zeroext i1 @haybleater_good(ptr noundef %a0) #0 {
 start:
   %r0 = call i1 @"lent::haybleater_good"(ptr %a0)
@@ -65,5 +66,10 @@ start:
 define noundef zeroext i1 @haybleater_waits(ptr noundef %a0) #0 {
 start:
   %r0 = call i1 @"lent::haybleater_waits"(ptr %a0)
+  ret i1 %r0
+}
+define noundef zeroext i1 @haybleater_goes_if_missing(ptr noundef %a0) #0 {
+start:
+  %r0 = call i1 @"lent::haybleater_goes_if_missing"(ptr %a0)
   ret i1 %r0
 }

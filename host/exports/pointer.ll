@@ -59,3 +59,10 @@ define void @haybleater_at_waits(ptr %head, ptr %waits) nounwind {
   store i8 %byte, ptr %waits, align 1
   ret void
 }
+
+define void @haybleater_at_goes_if_missing(ptr %head, ptr %goes) nounwind {
+  %answer = call i1 @"lent::haybleater_goes_if_missing"(ptr %head)
+  %byte = zext i1 %answer to i8
+  store i8 %byte, ptr %goes, align 1
+  ret void
+}

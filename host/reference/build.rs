@@ -5,7 +5,7 @@ use std::path::Path;
 use std::{env, fs};
 
 mod mistakes;
-use mistakes::{Mistake, MISTAKES};
+use mistakes::{Mistake, ELSEWHERE, MISTAKES};
 
 const MODULES: [&str; 8] = [
     "entry", "frame", "head", "line", "sdo", "settings", "upload", "wire",
@@ -34,11 +34,14 @@ fn wrong_head(number: usize, mistake: &Mistake) -> String {
 }
 
 fn alter(source: &str, module: &str, (name, place, from, to): &Mistake) -> String {
-    if module != *place {
-        return source.to_string();
+    let mut altered = source.to_string();
+    if module == *place {
+        for (from, to) in from.split(ELSEWHERE).zip(to.split(ELSEWHERE)) {
+            assert_eq!(source.matches(from).count(), 1, "where to make: {name}");
+            altered = altered.replace(from, to);
+        }
     }
-    assert_eq!(source.matches(from).count(), 1, "where to make: {name}");
-    source.replace(from, to)
+    altered
 }
 
 /// The names, and the function that picks a wrong head by its number.

@@ -3,11 +3,14 @@
 
 pub type Mistake = (&'static str, &'static str, &'static str, &'static str);
 
+/// Parts the texts of a mistake that is made in several places.
+pub const ELSEWHERE: &str = "\n---\n";
+
 pub const MISTAKES: &[Mistake] = &[
     (
         "a position frame survives a missing sample",
         "head",
-        "self.reading = None;\n        self.line.withdraw(Kind::Tpdo1);\n        self.line.withdraw(Kind::Tpdo2);",
+        "self.reading = None;\n        self.withdraw_timed(Which::One);\n        self.withdraw_timed(Which::Two);",
         "self.reading = None;",
     ),
     (
@@ -537,5 +540,233 @@ pub const MISTAKES: &[Mistake] = &[
         "head",
         "refusal::NONE => (refused, Head::new(node, identity)),",
         "refusal::NONE => {\n                let mut identity = identity;\n                for name in &mut identity.names { if let Some(at @ 1..) = name.bytes.iter().position(|byte| *byte == 0) { name.length = name.length.min(at as u8); } }\n                (refused, Head::new(node, identity))\n            }",
+    ),
+    (
+        "a missing sample takes a SYNC frame",
+        "head",
+        "if self.settings.communication.pdo(which).is_timed() {\n            self.line.withdraw(which.kind());",
+        "if true {\n            self.line.withdraw(which.kind());",
+    ),
+    (
+        "a missing sample takes a SYNC frame of a type above 1",
+        "head",
+        "if self.settings.communication.pdo(which).is_timed() {\n            self.line.withdraw(which.kind());",
+        "if self.settings.communication.pdo(which).transmission > 1 {\n            self.line.withdraw(which.kind());",
+    ),
+    (
+        "a missing sample leaves a frame of type 255",
+        "head",
+        "if self.settings.communication.pdo(which).is_timed() {\n            self.line.withdraw(which.kind());",
+        "if self.settings.communication.pdo(which).transmission == 254 {\n            self.line.withdraw(which.kind());",
+    ),
+    (
+        "a missing sample takes TPDO1 and leaves TPDO2, whatever their types",
+        "head",
+        "if self.settings.communication.pdo(which).is_timed() {\n            self.line.withdraw(which.kind());",
+        "if which == Which::One {\n            self.line.withdraw(which.kind());",
+    ),
+    (
+        "a missing sample takes both frames if one PDO is not by SYNC",
+        "head",
+        "if self.settings.communication.pdo(which).is_timed() {\n            self.line.withdraw(which.kind());",
+        "if self.settings.communication.tpdo1.is_timed() || self.settings.communication.tpdo2.is_timed() {\n            self.line.withdraw(which.kind());",
+    ),
+    (
+        "a missing sample goes by the type of the other PDO",
+        "head",
+        "if self.settings.communication.pdo(which).is_timed() {\n            self.line.withdraw(which.kind());",
+        "if self.settings.communication.pdo(if which == Which::One { Which::Two } else { Which::One }).is_timed() {\n            self.line.withdraw(which.kind());",
+    ),
+    (
+        "a second missing sample takes a SYNC frame",
+        "head",
+        "self.reading = None;",
+        "if self.reading.is_none() { self.line.withdraw(Kind::Tpdo1); self.line.withdraw(Kind::Tpdo2); }\n        self.reading = None;",
+    ),
+    (
+        "a SYNC frame carries the position at the slot",
+        "head",
+        "self.due(which).fixed\n",
+        "self.position().unwrap_or(self.due(which).fixed)\n",
+    ),
+    (
+        "TPDO1 by SYNC carries the position at the slot",
+        "head",
+        "self.due(which).fixed\n",
+        "self.position().filter(|_| which == Which::One).unwrap_or(self.due(which).fixed)\n",
+    ),
+    (
+        "a frame of type 240 carries the position at the slot",
+        "head",
+        "self.due(which).fixed\n",
+        "self.position().filter(|_| pdo.transmission == 240).unwrap_or(self.due(which).fixed)\n",
+    ),
+    (
+        "a SYNC frame carries 0 while missing",
+        "head",
+        "self.due(which).fixed\n",
+        "self.position().map_or(0, |_| self.due(which).fixed)\n",
+    ),
+    (
+        "a slot while missing loses a SYNC frame",
+        "head",
+        "self.due(which).fixed\n",
+        "self.position().map(|_| self.due(which).fixed)?\n",
+    ),
+    (
+        "a SYNC frame is held back while missing",
+        "head",
+        "match self.line.take_first()? {",
+        "if !self.reading_good() && matches!(self.line.first(), Some(Kind::Tpdo1 | Kind::Tpdo2)) { return None; }\n        match self.line.take_first()? {",
+    ),
+    (
+        "a frame of types 254 and 255 carries the position of its joining",
+        "head",
+        "self.line.join(which.kind());\n---\nself.position()?\n",
+        "if !self.line.holds(which.kind()) { self.fix_position(which); }\n            self.line.join(which.kind());\n---\nself.due(which).fixed\n",
+    ),
+    (
+        "a frame of types 254 and 255 carries the position of its last due moment",
+        "head",
+        "self.line.join(which.kind());\n---\nself.position()?\n",
+        "self.fix_position(which);\n            self.line.join(which.kind());\n---\nself.due(which).fixed\n",
+    ),
+    (
+        "a waiting SYNC frame isn't fixed anew",
+        "head",
+        "self.fix_position(which);\n",
+        "if !self.line.holds(which.kind()) { self.fix_position(which); }\n",
+    ),
+    (
+        "a SYNC frame that is fixed anew goes to the end",
+        "head",
+        "self.fix_position(which);\n",
+        "self.fix_position(which);\n            if self.reading_good() { self.line.withdraw(which.kind()); }\n",
+    ),
+    (
+        "a due SYNC while missing takes the SYNC frame",
+        "head",
+        "self.fix_position(which);\n",
+        "self.fix_position(which);\n            if !self.reading_good() { self.line.withdraw(which.kind()); }\n",
+    ),
+    (
+        "a due SYNC while missing fixes 0",
+        "head",
+        "self.fix_position(which);\n",
+        "self.fix_position(which);\n            if !self.reading_good() { self.due_mut(which).fixed = 0; }\n",
+    ),
+    (
+        "a due SYNC while missing fixes the last good position",
+        "head",
+        "fixed: u32,\n---\nfixed: 0,\n---\nself.reading = None;\n---\nself.fix_position(which);\n",
+        "fixed: u32,\n    last: u32,\n---\nfixed: 0,\n        last: 0,\n---\nif let Some(last) = self.position() { self.due1.last = last; self.due2.last = last; }\n        self.reading = None;\n---\nself.fix_position(which);\n            if !self.reading_good() { self.due_mut(which).fixed = self.due(which).last; }\n",
+    ),
+    (
+        "a SYNC that isn't due fixes a waiting frame anew",
+        "head",
+        "if !timed && self.due_mut(which).syncs.ends()",
+        "if !timed { self.fix_position(which); }\n        if !timed && self.due_mut(which).syncs.ends()",
+    ),
+    (
+        "both PDOs share one fixed position",
+        "head",
+        "self.fix_position(which);\n",
+        "self.fix_position(Which::One);\n            self.fix_position(Which::Two);\n",
+    ),
+    (
+        "SYNC isn't counted while a frame waits",
+        "head",
+        "if !timed && self.due_mut(which).syncs.ends()",
+        "if !timed && !self.line.holds(which.kind()) && self.due_mut(which).syncs.ends()",
+    ),
+    (
+        "a due SYNC while missing is made up for at the next one",
+        "head",
+        "self.restart_pdo_syncs(which);\n            self.fix_position(which);",
+        "if self.reading_good() { self.restart_pdo_syncs(which); } else { self.due_mut(which).syncs = Countdown(1); }\n            self.fix_position(which);",
+    ),
+    (
+        "a sample fixes a waiting SYNC frame anew",
+        "head",
+        "self.reading = Some(raw);",
+        "self.reading = Some(raw);\n        self.fix_position(Which::One); self.fix_position(Which::Two);",
+    ),
+    (
+        "the sample after a gap fixes a waiting SYNC frame anew",
+        "head",
+        "self.reading = Some(raw);",
+        "let returns = !self.reading_good();\n        self.reading = Some(raw);\n        if returns { self.fix_position(Which::One); self.fix_position(Which::Two); }",
+    ),
+    (
+        "a missing sample fixes a waiting SYNC frame at the last good position",
+        "head",
+        "self.reading = None;",
+        "self.fix_position(Which::One); self.fix_position(Which::Two);\n        self.reading = None;",
+    ),
+    (
+        "a write of 6000h alters a fixed position",
+        "head",
+        "(identifier, 8) if identifier == request => self.request(&frame.bytes),",
+        "(identifier, 8) if identifier == request => {\n                let before = self.settings.profile;\n                self.request(&frame.bytes);\n                if self.settings.profile != before && frame.bytes[1..3] == [0x00, 0x60] { self.fix_position(Which::One); self.fix_position(Which::Two); }\n            }",
+    ),
+    (
+        "a write of 6002h alters a fixed position",
+        "head",
+        "(identifier, 8) if identifier == request => self.request(&frame.bytes),",
+        "(identifier, 8) if identifier == request => {\n                let before = self.settings.profile;\n                self.request(&frame.bytes);\n                if self.settings.profile != before && frame.bytes[1..3] == [0x02, 0x60] { self.fix_position(Which::One); self.fix_position(Which::Two); }\n            }",
+    ),
+    (
+        "a write of 6003h alters a fixed position",
+        "head",
+        "(identifier, 8) if identifier == request => self.request(&frame.bytes),",
+        "(identifier, 8) if identifier == request => {\n                let before = self.settings.profile;\n                self.request(&frame.bytes);\n                if self.settings.profile != before && frame.bytes[1..3] == [0x03, 0x60] { self.fix_position(Which::One); self.fix_position(Which::Two); }\n            }",
+    ),
+    (
+        "a write of 6005h alters a fixed position",
+        "head",
+        "(identifier, 8) if identifier == request => self.request(&frame.bytes),",
+        "(identifier, 8) if identifier == request => {\n                let before = self.settings.profile;\n                self.request(&frame.bytes);\n                if self.settings.profile != before && frame.bytes[1..3] == [0x05, 0x60] { self.fix_position(Which::One); self.fix_position(Which::Two); }\n            }",
+    ),
+    (
+        "the sample of the SYNC is fixed, its position made at the slot",
+        "head",
+        "if let Some(position) = self.position() {\n            self.due_mut(which).fixed = position;\n---\nself.due(which).fixed\n",
+        "if let Some(raw) = self.reading {\n            self.due_mut(which).fixed = raw;\n---\nself.settings.profile.position(self.due(which).fixed)\n",
+    ),
+    (
+        "leaving Operational leaves a SYNC frame",
+        "head",
+        "self.line.withdraw(Kind::Tpdo1);\n            self.line.withdraw(Kind::Tpdo2);",
+        "self.withdraw_timed(Which::One);\n            self.withdraw_timed(Which::Two);",
+    ),
+    (
+        "entering Stopped leaves a SYNC frame",
+        "head",
+        "self.line.withdraw(Kind::Tpdo1);\n            self.line.withdraw(Kind::Tpdo2);",
+        "self.withdraw_timed(Which::One);\n            self.withdraw_timed(Which::Two);\n            if state != State::Stopped { self.line.withdraw(Kind::Tpdo1); self.line.withdraw(Kind::Tpdo2); }",
+    ),
+    (
+        "leaving Operational while missing leaves a SYNC frame",
+        "head",
+        "self.line.withdraw(Kind::Tpdo1);\n            self.line.withdraw(Kind::Tpdo2);",
+        "if self.reading_good() { self.line.withdraw(Kind::Tpdo1); self.line.withdraw(Kind::Tpdo2); }",
+    ),
+    (
+        "switching a PDO off leaves a SYNC frame",
+        "sdo",
+        "self.line.withdraw(which.kind());",
+        "if self.settings.communication.pdo(which).is_timed() { self.line.withdraw(which.kind()); }",
+    ),
+    (
+        "switching a PDO off while missing leaves a SYNC frame",
+        "sdo",
+        "self.line.withdraw(which.kind());",
+        "if self.reading_good() { self.line.withdraw(which.kind()); }",
+    ),
+    (
+        "a reset leaves SYNC frames",
+        "head",
+        "self.line = Line::EMPTY;",
+        "for kind in [Kind::Emergency, Kind::Reply, Kind::Heartbeat] { self.line.withdraw(kind); }\n        self.withdraw_timed(Which::One);\n        self.withdraw_timed(Which::Two);",
     ),
 ];

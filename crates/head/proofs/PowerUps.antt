@@ -1,26 +1,45 @@
--- What power-up answers, refused or not; the head that it leaves is valid.
+-- The number that power-up answers, and the valid head that it leaves.
 use Prim.Native.Nat.{ℕ}
-use mathlib.Core.Path.{_≡_, sym, subst}
-use mathlib.Core.Bool.{true, false}
+use native.Mathlib.Omega.{arith}
+use mathlib.Core.Path.{_≡_, refl, sym, subst}
+use mathlib.Core.Bool.{true, false, not}
 use Rattle.cases.specs.Tests.{within}
+use Rattle.cases.proofs.Cases.{by}
 use Rattle.entries.specs.declared.Identity.{Identity}
 use Rattle.entries.specs.Identity.{hasNames}
 use Rattle.dictionary.specs.Valid.{FitsIdentity}
 use Rattle.parts.specs.declared.Answer.{Answer}
+use Rattle.parts.specs.declared.Head.{Head}
 use Rattle.promises.specs.States.{started}
-use Rattle.promises.specs.Calls.{answered, refusedWith, poweredUp}
+use Rattle.promises.specs.Calls.{noIdentity, poweredUp}
 use Rattle.promises.specs.Valid.{Valid}
-use Rattle.promises.specs.Promised.{PowersUp}
 use Rattle.promises.proofs.Histories.{valid-refused, valid-powered}
 
 module _ (n : ℕ) (i : Identity) where
-  pub powers-up-not : within 1 127 n ≡ false → PowersUp n i (refusedWith 4)
-  powers-up-not e = (rw e, valid-refused)
+  pub bad-node : within 1 127 n ≡ false → 4 ≡ poweredUp n i .refusal
+  bad-node e = rw e
 
-  pub powers-up-unnamed : within 1 127 n ≡ true → hasNames i ≡ false → PowersUp n i (refusedWith 5)
-  powers-up-unnamed e u = (rw (e, u), valid-refused)
+  pub bad-name : within 1 127 n ≡ true → hasNames i ≡ false → 5 ≡ poweredUp n i .refusal
+  bad-name e u = rw (e, u)
 
-  pub powers-up : within 1 127 n ≡ true → hasNames i ≡ true → FitsIdentity i → PowersUp n i (answered 0 (started n i))
-  powers-up e u f =
-      let so : answered 0 (started n i) ≡ poweredUp n i = rw (e, u) in
-      (so, subst (λ (b : Answer). Valid (b .head)) (sym so) (valid-powered (record { number = n; identity = i; fits = f })))
+  pub taken : within 1 127 n ≡ true → hasNames i ≡ true → 0 ≡ poweredUp n i .refusal
+  taken e u = rw (e, u)
+
+  -- by the number, the head
+  abbrev Leaves : Answer → Type 0
+  Leaves a = (a .refusal ≡ 0 → a .head ≡ started n i) × ((a .refusal ≡ 0 → ⊥) → a .head ≡ started 1 noIdentity)
+
+  leaves : Leaves (poweredUp n i)
+  leaves =
+      by Leaves (not (within 1 127 n)) (λ _. (λ (e : 4 ≡ 0). absurd (omega (arith, e)), λ _. refl))
+      (λ _. by Leaves (not (hasNames i)) (λ _. (λ (e : 5 ≡ 0). absurd (omega (arith, e)), λ _. refl)) (λ _. (λ _. refl, λ no0. absurd (no0 refl))))
+
+  abbrev Powered : Head → Type 0
+  Powered h = (h ≡ poweredUp n i .head) × Valid h
+
+  pub powered-refused : (poweredUp n i .refusal ≡ 0 → ⊥) → Powered (started 1 noIdentity)
+  powered-refused e = (sym (leaves .1 e), valid-refused)
+
+  pub powered-taken : poweredUp n i .refusal ≡ 0 → FitsIdentity i → Powered (started n i)
+  powered-taken e f =
+      let so = sym (leaves .0 e) in (so, subst Valid (sym so) (valid-powered (record { number = n; identity = i; fits = f })))

@@ -13,7 +13,7 @@ use Rattle.head.specs.Sent.{sentIn}
 
 module _ (h : Head) (v : Valid h) where
   abbrev z : Slotted
-  z = let c = h .core in slottedOf (node c) (c .nmt) (c .device .settings) (c .device .reading) (c .reply) (h .line)
+  z = let c = h .core in slottedOf (node c) (c .nmt) (c .device .settings) (c .device .reading) (c .reply) (c .fixed) (h .line)
 
   abbrev Sends : Head → Type 0
   Sends r = Slots h (record { waited = z .outgoing .waited; frame = z .outgoing .frame; head = r })

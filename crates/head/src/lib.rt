@@ -3,7 +3,8 @@
 ghost use mathlib.Core.Path.{_≡_};
 ghost use Rattle.promises.specs.States.{started as startedHead};
 ghost use Rattle.parts.specs.declared.Sensor.the-variants.{Missing, Raw};
-ghost use Rattle.promises.specs.Calls.{answered, refusedWith};
+ghost use Rattle.dictionary.specs.Valid.{FitsIdentity};
+ghost use Rattle.promises.specs.Calls.{answered, noIdentity, poweredUp};
 ghost use Rattle.promises.specs.Valid.{Valid};
 ghost use Rattle.promises.specs.Promised.{PowersUp, Receives, Ticks, Samples, Slots};
 use can::Received;
@@ -14,6 +15,7 @@ use entries::Settings;
 use names::Transfer;
 use parts::Answer;
 use parts::Core;
+use parts::Fixed;
 use parts::Head;
 use parts::Nmt;
 use parts::Sensor;
@@ -27,45 +29,61 @@ pub const BAD_NODE: u8 = 4;
 
 pub const BAD_NAME: u8 = 5;
 
-// Initialising, with factory settings, the reading missing. A node number that is not 1..127 is refused with 4, then
-// a name that does not have 1 to 32 bytes with 5. The head is then of node 1 with identity numbers 0 and "?" for each name.
 pub fn power_up(setup: Setup) -> Answer
     ensures { λ r. ⌜ PowersUp (setup .node) (setup .identity) r ⌝ }
+{
+    Answer {
+        refusal: refusal(setup),
+        head: powered(setup),
+    }
+}
+
+// A node number that is not 1..127 is refused with 4, then a name that does not have 1 to 32 bytes with 5.
+pub fn refusal(setup: Setup) -> u8
+    ensures { λ r. ⌜ r ≡ poweredUp (setup .node) (setup .identity) .refusal ⌝ }
+    ensures { λ r. ⌜ (r ≡ 0 → FitsIdentity (setup .identity)) ⌝ }
 {
     let node = setup.node;
     let identity = setup.identity;
     if !((1 <= node) & (node <= 127)) {
-        return refused(BAD_NODE);
+        return BAD_NODE;
     }
     if !(names::is_name(identity.name)
         & names::is_name(identity.hardware)
         & names::is_name(identity.software)) {
-        return refused(BAD_NAME);
+        return BAD_NAME;
     }
-    Answer {
-        refusal: can::NO_REFUSAL,
-        head: started(node, identity),
-    }
+    can::NO_REFUSAL
 }
 
-fn refused(refusal: u8) -> Answer
-    ensures { λ r. ⌜ r ≡ refusedWith refusal ⌝ }
+// Initialising, with factory settings, the reading missing. A refused power-up leaves a head of node 1 with identity numbers 0 and
+// "?" for each name.
+pub fn powered(setup: Setup) -> Head
+    ensures { λ r. ⌜ (r ≡ poweredUp (setup .node) (setup .identity) .head) × Valid r ⌝ }
 {
-    Answer {
-        refusal,
-        head: started(
-            1,
-            Identity {
-                vendor: 0,
-                product: 0,
-                revision: 0,
-                serial: 0,
-                name: names::unknown(),
-                hardware: names::unknown(),
-                software: names::unknown(),
-            },
-        ),
+    let node = setup.node;
+    let identity = setup.identity;
+    if refusal(setup) != can::NO_REFUSAL {
+        return refused();
     }
+    started(node, identity)
+}
+
+fn refused() -> Head
+    ensures { λ r. ⌜ r ≡ startedHead 1 noIdentity ⌝ }
+{
+    started(
+        1,
+        Identity {
+            vendor: 0,
+            product: 0,
+            revision: 0,
+            serial: 0,
+            name: names::unknown(),
+            hardware: names::unknown(),
+            software: names::unknown(),
+        },
+    )
 }
 
 fn started(node: u8, identity: Identity) -> Head
@@ -91,6 +109,7 @@ fn started(node: u8, identity: Identity) -> Head
                 settings: Settings::factory(node),
                 saved: Settings::factory(node),
             },
+            fixed: Fixed { pdo1: 0, pdo2: 0 },
         },
     }
 }
@@ -247,8 +266,17 @@ pub fn slot(head: Head) -> Sent
     let settings = head.core.device.settings;
     let reading = head.core.device.reading;
     let reply = head.core.reply;
+    let fixed = head.core.fixed;
     let line = head.line;
-    let slotted = steps::slot::slot(head.core.device.node, state, settings, reading, reply, line);
+    let slotted = steps::slot::slot(
+        head.core.device.node,
+        state,
+        settings,
+        reading,
+        reply,
+        fixed,
+        line,
+    );
     let frame = slotted.outgoing.frame;
     Sent {
         waited: slotted.outgoing.waited,

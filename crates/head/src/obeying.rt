@@ -49,24 +49,23 @@ fn replied(head: Head, heard: Heard) -> Head
 }
 
 fn synced(head: Head) -> Head
+    requires { ⌜ ValidProfile (head .core .device .settings .profile) ⌝ }
     ensures { λ r. ⌜ r ≡ syncedIn head ⌝ }
 {
     let state = head.core.nmt;
-    let settings = head.core.device.settings.communication;
+    let settings = head.core.device.settings;
     let counted = head.core.timers;
+    let reading = head.core.device.reading;
+    let held = head.core.fixed;
     let waiting = head.line;
-    let left = sync::sync(
-        state,
-        settings,
-        counted,
-        head.core.device.reading.good,
-        waiting,
-    );
+    let left = sync::sync(state, settings, counted, reading, held, waiting);
     let timers = left.timers;
+    let fixed = left.fixed;
     let line = left.line;
     let transfer = head.transfer;
     let mut core = head.core;
     core.timers = timers;
+    core.fixed = fixed;
     Head {
         line,
         transfer,

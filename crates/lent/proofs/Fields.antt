@@ -13,6 +13,8 @@ use Rattle.parts.proofs.Nmt as Nmt
 use Rattle.parts.proofs.Nmt.Laws as Nmt′
 use Rattle.parts.proofs.Timers as Timers
 use Rattle.parts.proofs.Timers.Laws as Timers′
+use Rattle.parts.proofs.Fixed as Fixed
+use Rattle.parts.proofs.Fixed.Laws as Fixed′
 use Rattle.entries.proofs.Device as Device
 use Rattle.entries.proofs.Device.Laws as Device′
 use Rattle.entries.proofs.Settings as Settings
@@ -27,7 +29,7 @@ use Rattle.lending.proofs.Rows.{uint-row, bool-row}
 use Rattle.lending.proofs.Parts.{Field, Stored}
 use Rattle.lending.proofs.Fields.{first, next, tupled, plainly, listed, field-at, stored-at}
 use Rattle.lent.proofs.Rows.{head-row, core-row, nmt-row, timers-row, device-row, settings-row, reading-row, communication-row}
-use Rattle.lent.proofs.Rows.{profile-row, transfer-row, line-row, bytes-row}
+use Rattle.lent.proofs.Rows.{profile-row, transfer-row, fixed-row, line-row, bytes-row}
 
 -- ---- the fields
 abbrev pub head-line : Stored head-row line-row
@@ -53,31 +55,37 @@ core-nmt =
     stored-at Core.the-type Core′.the-laws first 0 refl (λ c. c .nmt) (Nmt.the-type .to)
     (tupled Nmt.the-type Nmt′.the-laws nmt-row (λ x. refl))
     (λ c. (refl, refl))
-    (λ c x. record { nmt = x; announced = c .announced; timers = c .timers; reply = c .reply; device = c .device }) (λ c x. refl)
+    (λ c x. record { nmt = x; announced = c .announced; timers = c .timers; reply = c .reply; device = c .device; fixed = c .fixed }) (λ c x. refl)
 
 abbrev pub core-announced : Stored core-row bool-row
 core-announced =
     stored-at Core.the-type Core′.the-laws (next first) 1 refl (λ c. c .announced) (λ x. x) (plainly bool-row)
     (λ c. (refl, refl))
-    (λ c x. record { nmt = c .nmt; announced = x; timers = c .timers; reply = c .reply; device = c .device }) (λ c x. refl)
+    (λ c x. record { nmt = c .nmt; announced = x; timers = c .timers; reply = c .reply; device = c .device; fixed = c .fixed }) (λ c x. refl)
 
 abbrev pub core-timers : Stored core-row timers-row
 core-timers =
     stored-at Core.the-type Core′.the-laws (next (next first)) 4 refl (λ c. c .timers) (Timers.the-type .to)
     (tupled Timers.the-type Timers′.the-laws timers-row (λ x. refl)) (λ c. (refl, refl))
-    (λ c x. record { nmt = c .nmt; announced = c .announced; timers = x; reply = c .reply; device = c .device }) (λ c x. refl)
+    (λ c x. record { nmt = c .nmt; announced = c .announced; timers = x; reply = c .reply; device = c .device; fixed = c .fixed }) (λ c x. refl)
 
 abbrev pub core-reply : Stored core-row bytes-row
 core-reply =
     stored-at Core.the-type Core′.the-laws (next (next (next first))) 28 refl (λ c. c .reply) (map (λ v. v)) (listed u8 8 bytes-row)
     (λ c. (refl, refl))
-    (λ c x. record { nmt = c .nmt; announced = c .announced; timers = c .timers; reply = x; device = c .device }) (λ c x. refl)
+    (λ c x. record { nmt = c .nmt; announced = c .announced; timers = c .timers; reply = x; device = c .device; fixed = c .fixed }) (λ c x. refl)
 
 abbrev pub core-device : Stored core-row device-row
 core-device =
     stored-at Core.the-type Core′.the-laws (next (next (next (next first)))) 36 refl (λ c. c .device) (Device.the-type .to)
     (tupled Device.the-type Device′.the-laws device-row (λ x. refl)) (λ c. (refl, refl))
-    (λ c x. record { nmt = c .nmt; announced = c .announced; timers = c .timers; reply = c .reply; device = x }) (λ c x. refl)
+    (λ c x. record { nmt = c .nmt; announced = c .announced; timers = c .timers; reply = c .reply; device = x; fixed = c .fixed }) (λ c x. refl)
+
+abbrev pub core-fixed : Stored core-row fixed-row
+core-fixed =
+    stored-at Core.the-type Core′.the-laws (next (next (next (next (next first))))) 280 refl (λ c. c .fixed) (Fixed.the-type .to)
+    (tupled Fixed.the-type Fixed′.the-laws fixed-row (λ x. refl)) (λ c. (refl, refl))
+    (λ c x. record { nmt = c .nmt; announced = c .announced; timers = c .timers; reply = c .reply; device = c .device; fixed = x }) (λ c x. refl)
 
 abbrev pub device-reading : Stored device-row reading-row
 device-reading =

@@ -4,11 +4,11 @@ use denote.RattleType.{RattleType}
 use Rattle.lending.proofs.Rows.{Row, uint-row, bool-row}
 use Rattle.lending.proofs.Parts.{Part, Place, whole, all-of, _▸_, _▹_}
 use Rattle.lent.proofs.Rows.{head-row, core-row, nmt-row, timers-row, device-row, settings-row, reading-row, communication-row}
-use Rattle.lent.proofs.Rows.{profile-row, transfer-row, line-row, bytes-row}
+use Rattle.lent.proofs.Rows.{profile-row, transfer-row, fixed-row, line-row, bytes-row}
 use Rattle.lent.proofs.Fields.{head-line, head-transfer, head-core, core-nmt, core-announced, core-timers, core-reply, core-device}
 use Rattle.lent.proofs.Fields.{device-reading, device-errors, device-settings, device-saved, settings-communication}
 use Rattle.lent.proofs.Fields.{settings-profile, timers-inhibit, device-node, reading-good, reading-raw, communication-emergency}
-use Rattle.lent.proofs.Fields.{communication-inhibit}
+use Rattle.lent.proofs.Fields.{communication-inhibit, core-fixed}
 
 -- ---- a part of the core, of the device, of its settings, of its communication settings: where it stands in a head
 module _ {P : RattleType} {π : Ty} {row : Row P π} where
@@ -51,6 +51,9 @@ inhibit = in-core (core-timers ▹ timers-inhibit ▹ all-of)
 
 abbrev pub reply : Place head-row bytes-row
 reply = in-core (core-reply ▹ all-of)
+
+abbrev pub fixed : Place head-row fixed-row
+fixed = in-core (core-fixed ▹ all-of)
 
 abbrev pub reading : Place head-row reading-row
 reading = in-device (device-reading ▹ all-of)

@@ -42,6 +42,8 @@ use Rattle.parts.proofs.Nmt as Nmt
 use Rattle.parts.proofs.Nmt.Laws as Nmt′
 use Rattle.parts.proofs.Timers as Timers
 use Rattle.parts.proofs.Timers.Laws as Timers′
+use Rattle.parts.proofs.Fixed as Fixed
+use Rattle.parts.proofs.Fixed.Laws as Fixed′
 use Rattle.entries.proofs.Settings as Settings
 use Rattle.entries.proofs.Settings.Laws as Settings′
 use Rattle.entries.proofs.Reading as Reading
@@ -52,17 +54,13 @@ use Rattle.position.proofs.Profile as Profile
 use Rattle.position.proofs.Profile.Laws as Profile′
 use Rattle.steps.proofs.slot.Outgoing as Outgoing
 use Rattle.steps.proofs.slot.Outgoing.Laws as Outgoing′
-use Rattle.parts.proofs.Answer as Answer
-use Rattle.parts.proofs.Answer.Laws as Answer′
-use Rattle.parts.proofs.Head as Head
-use Rattle.parts.proofs.Head.Laws as Head′
 use Rattle.lending.proofs.Rows.{uint-row, bool-row}
 use Rattle.lending.proofs.Parts.{Field}
 use Rattle.lending.proofs.Fields.{first, next, tupled, plainly, listed, field-at}
-use Rattle.lent.proofs.Rows.{head-row, answer-row, nmt-row, timers-row, settings-row, reading-row, communication-row, profile-row}
+use Rattle.lent.proofs.Rows.{nmt-row, timers-row, settings-row, reading-row, communication-row, profile-row}
 use Rattle.lent.proofs.Rows.{outgoing-row, line-row, bytes-row, flags-row, heard-row, replied-row, synced-row, configured-row}
 use Rattle.lent.proofs.Rows.{scaled-row, entered-row, restarted-row, saved-row, emptied-row, sampled-row, missed-row, ticked-row}
-use Rattle.lent.proofs.Rows.{slotted-row, booted-row, announced-row, taken-row, transfer-row}
+use Rattle.lent.proofs.Rows.{slotted-row, booted-row, announced-row, taken-row, transfer-row, fixed-row}
 
 abbrev pub heard-refusal : Field heard-row (uint-row w8)
 heard-refusal = field-at Heard.the-type Heard′.the-laws first 0 refl (λ z. z .refusal) (λ x. x) (plainly (uint-row w8))
@@ -108,8 +106,12 @@ abbrev pub synced-timers : Field synced-row timers-row
 synced-timers = field-at Synced.the-type Synced′.the-laws first 0 refl (λ z. z .timers) (Timers.the-type .to)
     (tupled Timers.the-type Timers′.the-laws timers-row (λ x. refl)) (λ z. (refl, refl))
 
+abbrev pub synced-fixed : Field synced-row fixed-row
+synced-fixed = field-at Synced.the-type Synced′.the-laws (next first) 24 refl (λ z. z .fixed) (Fixed.the-type .to)
+    (tupled Fixed.the-type Fixed′.the-laws fixed-row (λ x. refl)) (λ z. (refl, refl))
+
 abbrev pub synced-line : Field synced-row line-row
-synced-line = field-at Synced.the-type Synced′.the-laws (next first) 24 refl (λ z. z .line) (map (λ v. v)) (listed u8 5 line-row)
+synced-line = field-at Synced.the-type Synced′.the-laws (next (next first)) 32 refl (λ z. z .line) (map (λ v. v)) (listed u8 5 line-row)
     (λ z. (refl, refl))
 
 abbrev pub configured-communication : Field configured-row communication-row
@@ -263,11 +265,3 @@ announced-line = field-at Announced.the-type Announced′.the-laws (next (next f
 
 abbrev pub taken-line : Field taken-row line-row
 taken-line = field-at Taken.the-type Taken′.the-laws first 0 refl (λ z. z .line) (map (λ v. v)) (listed u8 5 line-row) (λ z. (refl, refl))
-
-abbrev pub answer-refusal : Field answer-row (uint-row w8)
-answer-refusal = field-at Answer.the-type Answer′.the-laws first 0 refl (λ z. z .refusal) (λ x. x) (plainly (uint-row w8))
-    (λ z. (refl, refl))
-
-abbrev pub answer-head : Field answer-row head-row
-answer-head = field-at Answer.the-type Answer′.the-laws (next first) 4 refl (λ z. z .head) (Head.the-type .to)
-    (tupled Head.the-type Head′.the-laws head-row (λ x. refl)) (λ z. (refl, refl))

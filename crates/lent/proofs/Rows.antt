@@ -14,6 +14,8 @@ use Rattle.parts.proofs.Nmt as Nmt
 use Rattle.parts.proofs.Nmt.Laws as Nmt′
 use Rattle.parts.proofs.Timers as Timers
 use Rattle.parts.proofs.Timers.Laws as Timers′
+use Rattle.parts.proofs.Fixed as Fixed
+use Rattle.parts.proofs.Fixed.Laws as Fixed′
 use Rattle.entries.proofs.Device as Device
 use Rattle.entries.proofs.Device.Laws as Device′
 use Rattle.entries.proofs.Settings as Settings
@@ -60,8 +62,6 @@ use Rattle.steps.proofs.slot.Announced as Announced
 use Rattle.steps.proofs.slot.Announced.Laws as Announced′
 use Rattle.steps.proofs.slot.Taken as Taken
 use Rattle.steps.proofs.slot.Taken.Laws as Taken′
-use Rattle.parts.proofs.Answer as Answer
-use Rattle.parts.proofs.Answer.Laws as Answer′
 use Rattle.parts.proofs.Setup as Setup
 use Rattle.parts.proofs.Setup.Laws as Setup′
 use Rattle.lent.proofs.Located as Located
@@ -95,6 +95,9 @@ nmt-row = struct-row Nmt.the-type Nmt′.the-laws Nmt′.the-plain Nmt′.the-co
 
 abbrev pub timers-row : Row Timers.the-row Timers′.mir
 timers-row = struct-row Timers.the-type Timers′.the-laws Timers′.the-plain Timers′.the-copy Timers′.lowers
+
+abbrev pub fixed-row : Row Fixed.the-row Fixed′.mir
+fixed-row = struct-row Fixed.the-type Fixed′.the-laws Fixed′.the-plain Fixed′.the-copy Fixed′.lowers
 
 abbrev pub device-row : Row Device.the-row Device′.mir
 device-row = struct-row Device.the-type Device′.the-laws Device′.the-plain Device′.the-copy Device′.lowers
@@ -165,9 +168,6 @@ announced-row = struct-row Announced.the-type Announced′.the-laws Announced′
 
 abbrev pub taken-row : Row Taken.the-row Taken′.mir
 taken-row = struct-row Taken.the-type Taken′.the-laws Taken′.the-plain Taken′.the-copy Taken′.lowers
-
-abbrev pub answer-row : Row Answer.the-row Answer′.mir
-answer-row = struct-row Answer.the-type Answer′.the-laws Answer′.the-plain Answer′.the-copy Answer′.lowers
 
 abbrev pub setup-row : Row Setup.the-row Setup′.mir
 setup-row = struct-row Setup.the-type Setup′.the-laws Setup′.the-plain Setup′.the-copy Setup′.lowers

@@ -1,10 +1,15 @@
 -- What a host may ask about the head that it keeps, without changing it. 01, chapter "The head and its neighbours".
 use Prim.Native.Nat.{ℕ}
-use mathlib.Core.Bool.{Bool, true, false}
+use lib.Dec.{eqb}
+use mathlib.Core.Bool.{Bool, true, false, not, _&&_, _||_}
 use mathlib.Core.Option.{Option, none, some}
 use Rattle.dictionary.specs.declared.read.Shown.{Shown}
 use Rattle.dictionary.specs.declared.read.Shown.the-variants.{Blank, Number}
 use Rattle.parts.specs.declared.Head.{Head}
+use Rattle.waiting.specs.Line as line
+use Rattle.waiting.specs.Line.{first}
+use Rattle.promises.specs.States.{communication}
+use Rattle.promises.specs.Timers.{synchronous}
 use Rattle.promises.specs.Calls.{slotAnswer, isFrame}
 use Rattle.promises.specs.Readings.{readsIn}
 use Rattle.lent.specs.declared.Located.{Located}
@@ -29,3 +34,10 @@ positionOf h = numberIn (readsIn h 0x6004 0)
 -- whether a slot would send a frame
 abbrev pub anyWaits : Head → Bool
 anyWaits h = isFrame (slotAnswer h)
+
+-- whether a missing sample would take the frame that a slot would send: a position frame of types 254 and 255
+abbrev pub goesIfMissing : Head → Bool
+goesIfMissing h =
+    let k = first (h .line) in
+    let s = communication (h .core) in
+    (eqb k line.tpdo1 && not (synchronous (s .pdo1))) || (eqb k line.tpdo2 && not (synchronous (s .pdo2)))

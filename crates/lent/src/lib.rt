@@ -6,7 +6,7 @@ ghost use Rattle.parts.specs.declared.Sensor.the-variants.{Missing, Raw};
 ghost use Rattle.promises.specs.Valid.{Valid};
 ghost use Rattle.promises.specs.Calls.{answered};
 ghost use Rattle.promises.specs.Promised.{PowersUp, Receives, Ticks, Samples, Slots};
-ghost use Rattle.lent.specs.Questions.{stateCode, isGood, positionOf, anyWaits};
+ghost use Rattle.lent.specs.Questions.{stateCode, isGood, positionOf, anyWaits, goesIfMissing};
 ghost use Rattle.lent.specs.Steps.{sentAs};
 use can::Received;
 use nmt::entry;
@@ -33,9 +33,10 @@ pub struct Located {
 pub extern "C" fn haybleater_power_up(head: &mut Head, setup: Setup) -> u8
     ensures { λ n. ⌜ PowersUp (setup .node) (setup .identity) (answered n (now (head .exit))) ⌝ }
 {
-    let answer = head::power_up(setup);
-    *head = answer.head;
-    answer.refusal
+    let refusal = head::refusal(setup);
+    let powered = head::powered(setup);
+    *head = powered;
+    refusal
 }
 
 #[no_mangle]
@@ -60,12 +61,14 @@ pub extern "C" fn haybleater_receive(head: &mut Head, frame: Received) -> u8
         hear::SYNCS => {
             let left = sync::sync(
                 head.core.nmt,
-                head.core.device.settings.communication,
+                head.core.device.settings,
                 head.core.timers,
-                head.core.device.reading.good,
+                head.core.device.reading,
+                head.core.fixed,
                 head.line,
             );
             head.core.timers = left.timers;
+            head.core.fixed = left.fixed;
             head.line = left.line;
         }
         hear::CONFIGURES => {
@@ -231,6 +234,7 @@ pub extern "C" fn haybleater_slot(head: &mut Head) -> Outgoing
         head.core.device.settings,
         head.core.device.reading,
         head.core.reply,
+        head.core.fixed,
         head.line,
     );
     match slotted.way {
@@ -281,6 +285,13 @@ pub extern "C" fn haybleater_position(head: &Head) -> Located
     ensures { λ r. ⌜ r ≡ positionOf (now (head .entry)) ⌝ }
 {
     question::position(*head)
+}
+
+#[no_mangle]
+pub extern "C" fn haybleater_goes_if_missing(head: &Head) -> bool
+    ensures { λ r. ⌜ r ≡ goesIfMissing (now (head .entry)) ⌝ }
+{
+    question::goes_if_missing(*head)
 }
 
 #[no_mangle]

@@ -1,7 +1,7 @@
 //! What a host may ask about a head, by value.
 ghost use mathlib.Core.Path.{_≡_};
 ghost use Rattle.promises.specs.Valid.{Valid};
-ghost use Rattle.lent.specs.Questions.{stateCode, isGood, positionOf, anyWaits};
+ghost use Rattle.lent.specs.Questions.{stateCode, isGood, positionOf, anyWaits, goesIfMissing};
 use crate::Located;
 use parts::Head;
 use waiting::EMERGENCY;
@@ -53,4 +53,15 @@ pub fn waits(head: Head) -> bool
         | (kind == TPDO1)
         | (kind == TPDO2);
     states::is_initialising(state) | waits
+}
+
+pub fn goes_if_missing(head: Head) -> bool
+    ensures { λ r. ⌜ r ≡ goesIfMissing head ⌝ }
+{
+    let pdo1 = head.core.device.settings.communication.pdo1;
+    let pdo2 = head.core.device.settings.communication.pdo2;
+    let line = head.line;
+    let kind = waiting::first(line);
+    ((kind == TPDO1) & !tpdo::is_synchronous(pdo1))
+        | ((kind == TPDO2) & !tpdo::is_synchronous(pdo2))
 }

@@ -110,12 +110,13 @@ pub record Asked : Type 0 where
   pub heartbeat·frame : AsksNothing heartbeat.frame.ended heartbeat.frame.Reads.Asked
   pub tpdo·is-synchronous : AsksNothing tpdo.is_synchronous.ended tpdo.is_synchronous.Reads.Asked
   pub tpdo·may-join : AsksNothing tpdo.may_join.ended tpdo.may_join.Reads.Asked
+  pub tpdo·may-stay : AsksNothing tpdo.may_stay.ended tpdo.may_stay.Reads.Asked
   pub tpdo·uncounted : AsksNothing tpdo.uncounted.ended tpdo.uncounted.Reads.Asked
   pub tpdo·ticked : AsksNothing tpdo.ticked.ended tpdo.ticked.Reads.Asked
   pub tpdo·synced : AsksNothing tpdo.synced.ended tpdo.synced.Reads.Asked
   pub tpdo·written : AsksNothing tpdo.written.ended tpdo.written.Reads.Asked
   pub tpdo·frame : AsksOnly tpdo.frame.ended (λ κs a. ValidProfile (a .1 .0)) tpdo.frame.Reads.Asked
-  pub tpdo·sync·sync : AsksNothing tpdo.sync.sync.ended tpdo.sync.sync.Reads.Asked
+  pub tpdo·sync·sync : AsksOnly tpdo.sync.sync.ended (λ κs a. ValidProfile (a .1 .0 .profile)) tpdo.sync.sync.Reads.Asked
   pub settling·joined : AsksNothing settling.joined.ended settling.joined.Reads.Asked
   pub nmt·ordered : AsksNothing nmt.ordered.ended nmt.ordered.Reads.Asked
   pub nmt·entry·enter : AsksNothing nmt.entry.enter.ended nmt.entry.enter.Reads.Asked
@@ -137,6 +138,8 @@ pub record Asked : Type 0 where
   pub steps·slot·take : AsksOnly steps.slot.take.ended (λ κs a. Holds places (a .0) (waitingIn (a .0))) steps.slot.take.Reads.Asked
   pub steps·tick·tick : AsksNothing steps.tick.tick.ended steps.tick.tick.Reads.Asked
   pub head·power-up : AsksNothing head.power_up.ended head.power_up.Reads.Asked
+  pub head·refusal : AsksNothing head.refusal.ended head.refusal.Reads.Asked
+  pub head·powered : AsksNothing head.powered.ended head.powered.Reads.Asked
   -- Every head comes from power-up and is altered by calls only; the promises are for such heads.
   pub head·receive : AsksOnly head.receive.ended (λ κs a. Reachable (a .0)) head.receive.Reads.Asked
   pub head·tick : AsksOnly head.tick.ended (λ κs a. Reachable (a .0)) head.tick.Reads.Asked
@@ -173,4 +176,5 @@ pub record LentAsked : Type 2 where
   pub lent·haybleater-state : AsksNothingOf lent.haybleater_state.ended (λ M. lent.haybleater_state.clauses {M = M})
   pub lent·haybleater-good : AsksNothingOf lent.haybleater_good.ended (λ M. lent.haybleater_good.clauses {M = M})
   pub lent·haybleater-position : AsksOnlyOf lent.haybleater_position.ended (λ κs a. Reachable (now (a .0))) (λ κs a. Valid (now (a .0))) (λ M. lent.haybleater_position.clauses {M = M})
+  pub lent·haybleater-goes-if-missing : AsksNothingOf lent.haybleater_goes_if_missing.ended (λ M. lent.haybleater_goes_if_missing.clauses {M = M})
   pub lent·haybleater-waits : AsksNothingOf lent.haybleater_waits.ended (λ M. lent.haybleater_waits.clauses {M = M})

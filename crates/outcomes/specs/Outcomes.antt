@@ -5,7 +5,7 @@ use mathlib.Core.Path.{_≡_}
 use Rattle.parts.specs.declared.Sensor.the-variants.{Missing, Raw}
 use Rattle.promises.specs.Calls.{answered}
 use Rattle.promises.specs.Promised.{PowersUp, Receives, Ticks, Samples, Slots}
-use Rattle.lent.specs.Questions.{stateCode, isGood, positionOf, anyWaits}
+use Rattle.lent.specs.Questions.{stateCode, isGood, positionOf, anyWaits, goesIfMissing}
 use Rattle.lent.specs.Steps.{sentAs}
 use Rattle.can.proofs as can
 use Rattle.names.proofs as names
@@ -106,6 +106,7 @@ pub record Outcomes : Type 0 where
   pub heartbeat·frame : OneOutcome heartbeat.frame.ended heartbeat.frame.Reads.Learnt
   pub tpdo·is-synchronous : OneOutcome tpdo.is_synchronous.ended tpdo.is_synchronous.Reads.Learnt
   pub tpdo·may-join : OneOutcome tpdo.may_join.ended tpdo.may_join.Reads.Learnt
+  pub tpdo·may-stay : OneOutcome tpdo.may_stay.ended tpdo.may_stay.Reads.Learnt
   pub tpdo·uncounted : OneOutcome tpdo.uncounted.ended tpdo.uncounted.Reads.Learnt
   pub tpdo·ticked : OneOutcome tpdo.ticked.ended tpdo.ticked.Reads.Learnt
   pub tpdo·synced : OneOutcome tpdo.synced.ended tpdo.synced.Reads.Learnt
@@ -133,6 +134,8 @@ pub record Outcomes : Type 0 where
   pub steps·slot·take : OneOutcome steps.slot.take.ended steps.slot.take.Reads.Learnt
   pub steps·tick·tick : OneOutcome steps.tick.tick.ended steps.tick.tick.Reads.Learnt
   pub head·power-up : OneOutcome head.power_up.ended head.power_up.Reads.Learnt
+  pub head·refusal : OneOutcome head.refusal.ended head.refusal.Reads.Learnt
+  pub head·powered : OneOutcome head.powered.ended head.powered.Reads.Learnt
   pub head·receive : OneOutcome head.receive.ended head.receive.Reads.Learnt
   pub head·tick : OneOutcome head.tick.ended head.tick.Reads.Learnt
   pub head·sample : OneOutcome head.sample.ended head.sample.Reads.Learnt
@@ -167,4 +170,5 @@ pub record LentOutcomes : Type 2 where
   pub lent·haybleater-state : OneOutcomeOf lent.haybleater_state.ended (λ κs a r e. r ≡ stateCode (now (a .0))) (λ M. lent.haybleater_state.clauses {M = M})
   pub lent·haybleater-good : OneOutcomeOf lent.haybleater_good.ended (λ κs a r e. r ≡ isGood (now (a .0))) (λ M. lent.haybleater_good.clauses {M = M})
   pub lent·haybleater-position : OneOutcomeOf lent.haybleater_position.ended (λ κs a r e. r ≡ positionOf (now (a .0))) (λ M. lent.haybleater_position.clauses {M = M})
+  pub lent·haybleater-goes-if-missing : OneOutcomeOf lent.haybleater_goes_if_missing.ended (λ κs a r e. r ≡ goesIfMissing (now (a .0))) (λ M. lent.haybleater_goes_if_missing.clauses {M = M})
   pub lent·haybleater-waits : OneOutcomeOf lent.haybleater_waits.ended (λ κs a r e. r ≡ anyWaits (now (a .0))) (λ M. lent.haybleater_waits.clauses {M = M})

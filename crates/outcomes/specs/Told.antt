@@ -8,15 +8,18 @@ use mathlib.Core.List.{List}
 use mathlib.Core.Option.{some}
 use Rattle.dictionary.specs.declared.read.Shown.the-variants.{Number}
 use Rattle.parts.specs.declared.Sensor.the-variants.{Missing, Raw}
-use Rattle.promises.specs.States.{isInitialising}
-use Rattle.promises.specs.WaitingLine.{Kind}
-use Rattle.promises.specs.Calls.{Call}
+use Rattle.waiting.specs.Line.{first}
+use Rattle.waiting.specs.Places.{waiting}
+use Rattle.promises.specs.States.{isInitialising, PdoNumber}
+use Rattle.promises.specs.WaitingLine.{Kind, tpdo, number}
+use Rattle.promises.specs.Calls.{Call, sample}
+use Rattle.promises.specs.Withdrawals.{Withdrawal}
 use Rattle.promises.specs.Valid.{waits as waitsIn}
 use Rattle.promises.specs.Histories.{after, PowerUp, powered}
 use Rattle.promises.specs.Readings.{readsIn, lastSample}
 use Rattle.promises.specs.Gap.{nodeOf}
 use Rattle.promises.specs.Codes.{codeAfter}
-use Rattle.lent.specs.Questions.{stateCode, isGood, positionOf, anyWaits}
+use Rattle.lent.specs.Questions.{stateCode, isGood, positionOf, anyWaits, goesIfMissing}
 
 pub record Told (p : PowerUp) (cs : List Call) : Type 0 where
   -- Each NMT state is named with its heartbeat code.
@@ -29,6 +32,9 @@ pub record Told (p : PowerUp) (cs : List Call) : Type 0 where
   -- neither the boot-up frame nor a kind
   pub none-waits : let h = after (powered p) cs in
       (anyWaits h ≡ false) ↔ ((isInitialising (h .core) ≡ false) × ((k : Kind) → waitsIn h k ≡ false))
+  -- a missing sample takes only a frame of types 254 and 255: the position frame that the next slot sends is one
+  pub goes-if-missing : let h = after (powered p) cs in
+      (goesIfMissing h ≡ true) ↔ ((w : PdoNumber) × (first (waiting (h .line)) ≡ number (tpdo w)) × Withdrawal h (sample Missing) (tpdo w))
 
 abbrev pub ToldRightly : Type 0
 ToldRightly = (p : PowerUp) (cs : List Call) → Told p cs

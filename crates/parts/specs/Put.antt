@@ -10,6 +10,7 @@ use Rattle.entries.specs.declared.Reading.{Reading}
 use Rattle.entries.specs.declared.Settings.{Settings}
 use Rattle.parts.specs.declared.Nmt.{Nmt}
 use Rattle.parts.specs.declared.Timers.{Timers}
+use Rattle.parts.specs.declared.Fixed.{Fixed}
 use Rattle.parts.specs.declared.Core.{Core}
 use Rattle.parts.specs.declared.Head.{Head}
 
@@ -25,17 +26,17 @@ withCore h c = record { line = h .line; transfer = h .transfer; core = c }
 abbrev pub withNmt : Head → Nmt → Head
 withNmt h s =
     let c = h .core in
-    withCore h (record { nmt = s; announced = c .announced; timers = c .timers; reply = c .reply; device = c .device })
+    withCore h (record { nmt = s; announced = c .announced; timers = c .timers; reply = c .reply; device = c .device; fixed = c .fixed })
 
 abbrev pub withAnnounced : Head → Bool → Head
 withAnnounced h a =
     let c = h .core in
-    withCore h (record { nmt = c .nmt; announced = a; timers = c .timers; reply = c .reply; device = c .device })
+    withCore h (record { nmt = c .nmt; announced = a; timers = c .timers; reply = c .reply; device = c .device; fixed = c .fixed })
 
 abbrev pub withTimers : Head → Timers → Head
 withTimers h t =
     let c = h .core in
-    withCore h (record { nmt = c .nmt; announced = c .announced; timers = t; reply = c .reply; device = c .device })
+    withCore h (record { nmt = c .nmt; announced = c .announced; timers = t; reply = c .reply; device = c .device; fixed = c .fixed })
 
 abbrev pub withInhibit : Head → ℕ → Head
 withInhibit h n =
@@ -45,12 +46,17 @@ withInhibit h n =
 abbrev pub withReply : Head → List ℕ → Head
 withReply h r =
     let c = h .core in
-    withCore h (record { nmt = c .nmt; announced = c .announced; timers = c .timers; reply = r; device = c .device })
+    withCore h (record { nmt = c .nmt; announced = c .announced; timers = c .timers; reply = r; device = c .device; fixed = c .fixed })
 
 abbrev pub withDevice : Head → Device → Head
 withDevice h d =
     let c = h .core in
-    withCore h (record { nmt = c .nmt; announced = c .announced; timers = c .timers; reply = c .reply; device = d })
+    withCore h (record { nmt = c .nmt; announced = c .announced; timers = c .timers; reply = c .reply; device = d; fixed = c .fixed })
+
+abbrev pub withFixed : Head → Fixed → Head
+withFixed h x =
+    let c = h .core in
+    withCore h (record { nmt = c .nmt; announced = c .announced; timers = c .timers; reply = c .reply; device = c .device; fixed = x })
 
 abbrev pub withReading : Head → Reading → Head
 withReading h r =

@@ -38,6 +38,13 @@ pub struct Timers {
     pub pdo2: Clock,
 }
 
+// The position that a frame of types 1 to 240 carries, for each PDO: fixed at its last due SYNC. It means something only while the frame waits.
+#[repr(C)]
+pub struct Fixed {
+    pub pdo1: u32,
+    pub pdo2: u32,
+}
+
 // All but the line and the transfer. `announced` is whether the reading last announced was good. `reply` holds the bytes of the SDO
 // reply last made.
 #[repr(C)]
@@ -47,6 +54,7 @@ pub struct Core {
     pub timers: Timers,
     pub reply: Bytes,
     pub device: Device,
+    pub fixed: Fixed,
 }
 
 // A head is made by `power_up` and altered by the calls only: the promises are for such heads, and each call leaves one.

@@ -8,8 +8,8 @@ use Rattle.cases.specs.Tests.{within}
 use Rattle.cases.proofs.Cases.{by₂, test, true-false}
 use Rattle.entries.specs.declared.Communication.{Communication}
 use Rattle.entries.specs.declared.table.Found.{Found}
-use Rattle.dictionary.specs.Accepted.{on, pdoBarred, barred}
-use Rattle.dictionary.specs.Writes.{ownKey, communicationAfter, written}
+use Rattle.dictionary.specs.Accepted.{on, barred}
+use Rattle.dictionary.specs.Writes.{communicationAfter, written}
 use Rattle.sdo.specs.declared.reply.Effect.{Effect}
 use Rattle.sdo.specs.declared.reply.Effect.the-variants.{Nothing, Reply, Write}
 use Rattle.sdo.specs.declared.reply.Served.{Served}
@@ -33,10 +33,10 @@ use Rattle.promises.specs.Valid.{Valid}
 use Rattle.promises.specs.Withdrawals.{identifierKey}
 use Rattle.promises.specs.Moments.{countBy, pdoOf, isSwitch, isSub5, ticksAnew, tickCounts, syncsAnew, synchronises}
 use Rattle.promises.proofs.Fits.{Fits, fits}
-use Rattle.promises.proofs.Clocks.{was-on, type-kept}
-use Rattle.promises.proofs.Counts.{own-key, own-free, pdoIndex, free, unbarred}
+use Rattle.promises.proofs.Clocks.{was-on}
+use Rattle.promises.proofs.Counts.{own-key, free, unbarred}
 use Rattle.promises.proofs.Meant.{core-step}
-use Rattle.promises.proofs.Conditions.{own-identifier}
+use Rattle.promises.proofs.Conditions.{identifier-written, transmission-kept}
 use Rattle.promises.proofs.Remainders.{Rest, anew, one-more}
 use Rattle.promises.proofs.Tested.{Marks, marks, effectTo, tested}
 
@@ -72,19 +72,9 @@ module _ (s : Communication) (k v : ℕ) where
   -- only a write to sub 1 that clears bit 31 switches on
   switched : (w : PdoNumber) → switchedOn (pdo s w) (pdo (communicationAfter s k v) w) ≡ (isSwitch w k v && not (on (pdo s w .identifier)))
   switched w =
-      ap (λ i. not (on (pdo s w .identifier)) && on i) (identifier w)
+      ap (λ i. not (on (pdo s w .identifier)) && on i) (identifier-written s k v w)
       ∙ test (eqb k (identifierKey w)) (λ e. rw e (and-comm (not (on (pdo s w .identifier))) (on v)))
       (λ e. rw e (not-and-self (on (pdo s w .identifier))))
-    where
-      identifier : (w : PdoNumber) → pdo (communicationAfter s k v) w .identifier ≡ cond (eqb k (identifierKey w)) v (pdo s w .identifier)
-      identifier one = rw (own-identifier k)
-      identifier two = refl
-
-  -- While a PDO is on its type cannot be written.
-  transmission-kept : (w : PdoNumber) → pdoBarred (pdoIndex w) (pdo s w) k v ≡ false → on (pdo s w .identifier) ≡ true
-      → pdo (communicationAfter s k v) w .transmission ≡ pdo s w .transmission
-  transmission-kept one e o = rw (type-kept 0x1800 (s .pdo1) (ownKey k) v (own-free (s .pdo1) k v e) o)
-  transmission-kept two e o = rw (type-kept 0x1801 (s .pdo2) k v e o)
 
 -- a count that restarts together with the count of the calls
 restarted : (sub5 switched : Bool) (period before t n : ℕ) → (sub5 ≡ false → period ≡ before) → Rest before t n

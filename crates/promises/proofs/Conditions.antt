@@ -3,19 +3,24 @@ use Prim.Native.Nat.{ℕ}
 use lib.Dec.{eqb}
 use mathlib.Core.Path.{_≡_, refl, ap, _∙_}
 use mathlib.Core.List.{List}
-use mathlib.Core.Bool.{Bool, true, not, _&&_, Bool·beq, cond, Bool·not-not, and-true}
+use mathlib.Core.Bool.{Bool, true, false, not, _&&_, _||_, Bool·beq, cond, Bool·not-not, and-true}
 use borrow.Author.Tests.{eqb-true}
+use Rattle.cases.specs.Tests.{within}
 use Rattle.cases.proofs.Cases.{both, test}
+use Rattle.entries.specs.declared.Communication.{Communication}
 use Rattle.entries.specs.Keys.{identifierKeyOf, tpdo1, cycleKey, emergencyKey, heartbeatKey}
-use Rattle.dictionary.specs.Accepted.{on}
-use Rattle.dictionary.specs.Writes.{ownKey, written}
+use Rattle.dictionary.specs.Accepted.{on, pdoBarred, barred}
+use Rattle.dictionary.specs.Writes.{ownKey, communicationAfter, written}
 use Rattle.sdo.specs.Reply.{confirmed}
 use Rattle.parts.specs.declared.Core.{Core}
 use Rattle.promises.specs.States.{operational, isIn, isInitialising, isLive, good, communication, PdoNumber, one, two, pdo}
-use Rattle.promises.specs.WaitingLine.{Kind, emergency, sdoReply, heartbeat, tpdo, isAlerting, mayStay, mayAlert, mayBeat, mayShow}
+use Rattle.promises.specs.Timers.{synchronous}
+use Rattle.promises.specs.WaitingLine.{Kind, emergency, sdoReply, heartbeat, tpdo, isAlerting, mayStay, mayAlert, mayBeat, mayShow, mayKeep}
 use Rattle.promises.specs.Acts.{serve, acted}
 use Rattle.promises.specs.Withdrawals.{identifierKey}
 use Rattle.promises.specs.Effects.{takes}
+use Rattle.promises.proofs.Clocks.{type-kept}
+use Rattle.promises.proofs.Counts.{own-free, pdoIndex, free}
 
 pub record Alerts (c : Core) : Type 0 where
   pub lives : isLive c ≡ true
@@ -49,9 +54,34 @@ shows c w y =
     let t = both (isIn operational c) (on (pdo (communication c) w .identifier)) (u .0) in
     record { operates = t .0; is-on = t .1; is-good = u .1 }
 
+-- a PDO whose frame may stay: of types 1 to 240, or the reading is good
+pub record Keeps (c : Core) (w : PdoNumber) : Type 0 where
+  pub operates : isIn operational c ≡ true
+  pub is-on : on (pdo (communication c) w .identifier) ≡ true
+  pub lasts : (synchronous (pdo (communication c) w) || good c) ≡ true
+
+pub keeps : (c : Core) (w : PdoNumber) → mayStay c (tpdo w) ≡ true → Keeps c w
+keeps c w y =
+    let p = pdo (communication c) w in
+    let u = both (isIn operational c && on (p .identifier)) (synchronous p || good c) y in
+    let t = both (isIn operational c) (on (p .identifier)) (u .0) in
+    record { operates = t .0; is-on = t .1; lasts = u .1 }
+
 -- 6200h is 1800-5, and no identifier
 pub own-identifier : (k : ℕ) → eqb (ownKey k) (identifierKeyOf tpdo1) ≡ eqb k (identifierKeyOf tpdo1)
 own-identifier k = test (eqb k cycleKey) (λ e. rw (eqb-true k cycleKey e)) (λ e. rw e)
+
+module _ (s : Communication) (k v : ℕ) where
+  pub identifier-written : (w : PdoNumber)
+      → pdo (communicationAfter s k v) w .identifier ≡ cond (eqb k (identifierKey w)) v (pdo s w .identifier)
+  identifier-written one = rw (own-identifier k)
+  identifier-written two = refl
+
+  -- While a PDO is on its type cannot be written.
+  pub transmission-kept : (w : PdoNumber) → pdoBarred (pdoIndex w) (pdo s w) k v ≡ false → on (pdo s w .identifier) ≡ true
+      → pdo (communicationAfter s k v) w .transmission ≡ pdo s w .transmission
+  transmission-kept one e o = rw (type-kept 0x1800 (s .pdo1) (ownKey k) v (own-free (s .pdo1) k v e) o)
+  transmission-kept two e o = rw (type-kept 0x1801 (s .pdo2) k v e o)
 
 -- A write of v to the entry of key k: 1014h alters the emergency's condition, 1017h the heartbeat's, a PDO's sub 1 that of the PDO.
 module _ (c : Core) (f : List ℕ) (k v : ℕ) where
@@ -66,11 +96,9 @@ module _ (c : Core) (f : List ℕ) (k v : ℕ) where
   beat-written = refl
 
   pub show-written : (w : PdoNumber)
-      → mayStay (acted c (serve (confirmed f k v))) (tpdo w)
-      ≡ mayShow (c .nmt) (cond (eqb k (identifierKey w)) v (pdo (communication c) w .identifier)) (good c)
+      → mayStay (acted c (serve (confirmed f k v))) (tpdo w) ≡ mayKeep (c .nmt) (pdo (communicationAfter (communication c) k v) w) (good c)
   unfolding written
-  show-written one = rw (own-identifier k)
-  show-written two = refl
+  show-written w = refl
 
 -- A write of v ends a condition exactly if the condition depends on the written setting (t says so) and v ends it.
 module _ (c : Core) (t : Bool) (v : ℕ) where
@@ -82,12 +110,24 @@ module _ (c : Core) (t : Bool) (v : ℕ) where
   beat-ends m = test t (λ e. rw (e, beats c m .0) (Bool·not-not (eqb v 0))) (λ e. rw e (ap not m))
 
   show-ends : (w : PdoNumber) → mayStay c (tpdo w) ≡ true
-      → not (mayShow (c .nmt) (cond t v (pdo (communication c) w .identifier)) (good c)) ≡ (t && not (on v))
-  show-ends w m = let s = shows c w m in test t (λ e. rw (e, s .operates, s .is-good) (simp and-true)) (λ e. rw e (ap not m))
+      → not (mayShow (c .nmt) (cond t v (pdo (communication c) w .identifier)) true) ≡ (t && not (on v))
+  show-ends w m = let s = keeps c w m in test t (λ e. rw (e, s .operates) (simp and-true)) (λ e. rw (e, s .operates, s .is-on))
 
-pub ends : (c : Core) (f : List ℕ) (k v : ℕ) (x : Kind) → mayStay c x ≡ true
+-- a PDO that is on keeps its type, and so a frame that may stay is switched off or stays
+kept-on : (c : Core) (k v : ℕ) → barred (c .device) k v ≡ false → (w : PdoNumber) → mayStay c (tpdo w) ≡ true
+    → mayKeep (c .nmt) (pdo (communicationAfter (communication c) k v) w) (good c)
+    ≡ mayShow (c .nmt) (cond (eqb k (identifierKey w)) v (pdo (communication c) w .identifier)) true
+kept-on c k v free-so w m =
+    let s = communication c in
+    let held = keeps c w m in
+    let same = transmission-kept s k v w (free (c .device) k v free-so w) (held .is-on) in
+    let lasts : (synchronous (pdo (communicationAfter s k v) w) || good c) ≡ true =
+    ap (λ t. within 1 240 t || good c) same ∙ held .lasts in
+    rw (lasts, identifier-written s k v w)
+
+pub ends : (c : Core) (f : List ℕ) (k v : ℕ) → barred (c .device) k v ≡ false → (x : Kind) → mayStay c x ≡ true
     → not (mayStay (acted c (serve (confirmed f k v))) x) ≡ takes k v x
-ends c f k v emergency m = ap not (alert-written c f k v) ∙ alert-ends c (eqb k emergencyKey) v m
-ends c f k v sdoReply m = ap not m
-ends c f k v heartbeat m = ap not (beat-written c f k v) ∙ beat-ends c (eqb k heartbeatKey) v m
-ends c f k v (tpdo w) m = ap not (show-written c f k v w) ∙ show-ends c (eqb k (identifierKey w)) v w m
+ends c f k v b emergency m = ap not (alert-written c f k v) ∙ alert-ends c (eqb k emergencyKey) v m
+ends c f k v b sdoReply m = ap not m
+ends c f k v b heartbeat m = ap not (beat-written c f k v) ∙ beat-ends c (eqb k heartbeatKey) v m
+ends c f k v b (tpdo w) m = ap not (show-written c f k v w ∙ kept-on c k v b w m) ∙ show-ends c (eqb k (identifierKey w)) v w m

@@ -19,7 +19,8 @@ use Rattle.promises.specs.Meant.{Writes}
 use Rattle.promises.specs.Histories.{after, PowerUp, powered}
 use Rattle.promises.specs.Moments.{countBy, since, pdoOf, writes, isPeriod, isSwitch, isSub5, switchesOn, entersOperational}
 use Rattle.promises.specs.Moments.{beatsAnew, beatCounts, ticksAnew, tickCounts, syncsAnew, synchronises}
-use Rattle.promises.specs.Moments.{OnEvents, OnSyncs, EachOf, countsAfter, Moments}
+use Rattle.promises.specs.Timers.{OnEvents, OnSyncs}
+use Rattle.promises.specs.Moments.{EachOf, countsAfter, Moments}
 use Rattle.promises.specs.Withdrawals.{identifierKey}
 use Rattle.promises.specs.Counting.{sub1, EntersOrSwitches, WritesSub5, Counting}
 use Rattle.promises.proofs.Codes.{code-is}

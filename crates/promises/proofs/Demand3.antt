@@ -2,6 +2,7 @@
 use Rattle.promises.specs.Demand3.{Demand3}
 use Rattle.promises.proofs.FiveSlots.{five-slots}
 use Rattle.promises.proofs.Gap.{gap}
+use Rattle.promises.proofs.OneBeam.{sync-frames}
 
 pub demand3 : Demand3
-demand3 = record { five-slots = five-slots; gap = gap }
+demand3 = record { five-slots = five-slots; gap = gap; sync-frames = sync-frames }

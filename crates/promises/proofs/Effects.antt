@@ -35,6 +35,7 @@ use Rattle.promises.specs.Effects.{OnlyReplied, Effects, Served, ServedR
 use Rattle.promises.proofs.Nothing.{step-but}
 use Rattle.promises.proofs.Causes.{asked-by, means}
 use Rattle.promises.proofs.Histories.{valid-reachable}
+use Rattle.promises.proofs.Counts.{unbarred}
 use Rattle.promises.proofs.Restarts.{counts}
 use Rattle.promises.proofs.ReplyJoins.{only-reply, write-line, write-waits}
 
@@ -79,6 +80,7 @@ module _ (h : Head) (f : Received) (valid : Valid h) (r : Requests h f) where
         nmt = refl;
         announced = refl;
         timers = refl;
+        fixed = refl;
         reply = sym e;
         transfer = leaves;
         line = only-reply h valid (r .live) (r .free) bytes t;
@@ -116,10 +118,11 @@ module _ (h : Head) (f : Received) (valid : Valid h) (r : Requests h f) where
           announced = refl;
           inhibit = refl;
           counts = counts (h .core) k v;
+          still-fixed = refl;
           reply = refl;
           transfer = leaves ∙ ap (λ y. answer (f .bytes) y .transfer) e;
-          line = write-line h valid (r .live) (r .free) (f .bytes) k v;
-          who-waits = write-waits h valid (r .live) (r .free) (f .bytes) k v;
+          line = write-line h valid (r .live) (r .free) (f .bytes) k v (unbarred its);
+          who-waits = write-waits h valid (r .live) (r .free) (f .bytes) k v (unbarred its);
         } in
         subst (λ a. Effects f k v h (withTransfer (act false h a) (transferAfter h (receive f)))) (sym (means h f valid r e)) after
 

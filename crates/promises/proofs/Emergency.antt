@@ -80,13 +80,13 @@ module _ (n : ℕ) (h : Head) (q : node (h .core) ≡ n) (v : Valid h) (s : Sens
       let alerting = sym (known n c q (v .device) k (v .only k z) .emergency) ∙ eq-eqb _ _ x in
       rw (only-emergency k alerting) at f
 
-  is-first : Alerts n h → IsFirst emergency h
+  pub is-first : Alerts n h → IsFirst emergency h
   is-first a = by-act (meant h slot) (at-slot h v) (a .waited) (a .identifier)
 
   then : Alerts n h → step h slot .core ≡ announcing c
   then a = core-step h slot ∙ ap (acted c) (first-sent (is-first a))
 
-  says : Alerts n h → frameIn (slotAnswer h) ≡ emergencyFrame n s
+  pub says : Alerts n h → frameIn (slotAnswer h) ≡ emergencyFrame n s
   says a =
       answers h (first-sent (is-first a)) .1
       ∙ ap (λ m. frame (0x80 + m) 8 (emergencyBytes (good c))) q

@@ -1,7 +1,7 @@
 -- Each withdrawal ends the condition of the kind that it takes.
 use Prim.Native.Nat.{ℕ}
 use mathlib.Core.Path.{_≡_, refl, sym, ap, _∙_}
-use mathlib.Core.Bool.{true, false, not, _&&_, and-false}
+use mathlib.Core.Bool.{true, false, not, _&&_, _||_, and-false}
 use borrow.Author.Tests.{eq-eqb, le-ltb}
 use Rattle.cases.proofs.Cases.{true-false}
 use Rattle.can.specs.declared.Received.{Received}
@@ -14,6 +14,7 @@ use Rattle.parts.specs.declared.Head.{Head}
 use Rattle.parts.specs.declared.Sensor.the-variants.{Missing, Raw}
 use Rattle.promises.specs.States.{CommandedState, operational, stopped, preOperational, state, isIn}
 use Rattle.promises.specs.States.{isInitialising, isLive, good, communication, pdo}
+use Rattle.promises.specs.Timers.{synchronous}
 use Rattle.promises.specs.WaitingLine.{Kind, emergency, sdoReply, heartbeat, tpdo, mayStay}
 use Rattle.promises.specs.Acts.{take, serve, acted}
 use Rattle.promises.specs.Calls.{Call, receive, sample, meant, step}
@@ -24,7 +25,8 @@ use Rattle.promises.specs.Withdrawals.{switches-off, beats-no-more, sile
 use Rattle.promises.proofs.Slots.{no-stay}
 use Rattle.promises.proofs.Meant.{core-step, enters, resets as reset-law}
 use Rattle.promises.proofs.Causes.{writes}
-use Rattle.promises.proofs.Conditions.{alerting, alert-written, beat-written, show-written}
+use Rattle.promises.proofs.Conditions.{alerting, alert-written, beat-written, show-written, identifier-written}
+use Rattle.promises.proofs.Types.{on-events}
 
 module _ (h : Head) (v : Valid h) where
   written-so : {f : Received} {j n : ℕ} → Writes h f j n → (k : Kind)
@@ -47,16 +49,23 @@ module _ (h : Head) (v : Valid h) where
   ended (resets {f} {r} {k} m) = no-stay (step h (receive f) .core) k (reset-law h f r m .initialising)
   ended (stops {f} {k} m o) = stopped-stay (step h (receive f) .core) k (enters h f stopped m) o
   ended (leaves {f} {g} {w} m y n) =
-      ap (λ t. t && on (pdo (communication d) w .identifier) && good d) (elsewhere (h .core) d g y n (enters h f g m))
+      let p = pdo (communication d) w in
+      ap (λ t. t && on (p .identifier) && (synchronous p || good d)) (elsewhere (h .core) d g y n (enters h f g m))
     where
       d : Core
       d = step h (receive f) .core
-  ended (loses {w}) =
+  ended (loses {w} t) =
+      let p = pdo (communication (h .core)) w in
       ap (λ c. mayStay c (tpdo w)) (core-step h (sample Missing))
-      ∙ and-false (isIn operational (h .core) && on (pdo (communication (h .core)) w .identifier))
+      ∙ rw (on-events p t) (and-false (isIn operational (h .core) && on (p .identifier)))
   ended (switches-off {f} {v = j} {w} x o) =
       written-so x (tpdo w) ∙ show-written (h .core) (f .bytes) (identifierKey w) j w
-      ∙ rw (eq-eqb (identifierKey w) (identifierKey w) refl, o, and-false (isIn operational (h .core)))
+      ∙ rw (
+        identifier-written (communication (h .core)) (identifierKey w) j w,
+        eq-eqb (identifierKey w) (identifierKey w) refl,
+        o,
+        and-false (isIn operational (h .core)),
+      )
   ended (beats-no-more {f} x) =
       written-so x heartbeat ∙ beat-written (h .core) (f .bytes) heartbeatKey 0 ∙ and-false (not (isInitialising (h .core)))
   ended (silenced {f} {v = j} x o) =

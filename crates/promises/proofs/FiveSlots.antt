@@ -4,7 +4,7 @@ use native.Mathlib.Omega.{arith}
 use lib.Dec.{eqb}
 use mathlib.Core.Path.{_≡_, refl, sym, ap, _∙_}
 use mathlib.Core.Logic.{_↔_, ⊎-elim}
-use mathlib.Core.Bool.{true, false}
+use mathlib.Core.Bool.{true, false, _||_}
 use mathlib.Core.List.{List, [], _∷_, _++_}
 use borrow.Author.Tests.{eqb-true, eqb-false, not-true}
 use Rattle.cases.proofs.Cases.{test, true-false}
@@ -14,7 +14,7 @@ use Rattle.waiting.specs.Trace as trace
 use Rattle.waiting.proofs.Lines.{lines}
 use Rattle.waiting.proofs.Slots.{demand3}
 use Rattle.parts.specs.declared.Head.{Head}
-use Rattle.promises.specs.States.{isInitialising, node, communication}
+use Rattle.promises.specs.States.{isInitialising, node, communication, good, pdo}
 use Rattle.promises.specs.WaitingLine.{Kind, emergency, sdoReply, heartbeat, tpdo, number, mayStay}
 use Rattle.promises.specs.Acts.{Act, boot, idle, send, frameBy}
 use Rattle.promises.specs.Calls.{Call, slot, meant, step, isFrame, frameIn, slotAnswer}
@@ -25,7 +25,8 @@ use Rattle.promises.proofs.KindNumbers.{same-kind, positive}
 use Rattle.promises.proofs.Valid.{valid-step}
 use Rattle.promises.proofs.Slots.{none-of, none-waits, none-exactly as none-left}
 use Rattle.promises.proofs.Answers.{AtSlot, booting, idling, sending, at-slot}
-use Rattle.promises.proofs.Conditions.{alerts, beats, shows}
+use Rattle.promises.proofs.Conditions.{alerts, beats, keeps}
+use Rattle.promises.proofs.Types.{on-events}
 use Rattle.promises.proofs.Histories.{valid-after, valid-reachable}
 use Rattle.promises.proofs.Turns.{machine, sound, runs-after, slots-slots}
 use Rattle.promises.proofs.Departures.{a-slot, sends-it, sent-gone, withdrawn-gone, only-so}
@@ -109,7 +110,9 @@ may h heartbeat m =
     let b = beats (h .core) m in
     let period = communication (h .core) .heartbeat in
     (not-true (isInitialising (h .core)) (b .0), omega (arith, eqb-false period 0 (not-true (eqb period 0) (b .1))))
-may h (tpdo w) m = let s = shows (h .core) w m in (s .operates, s .is-on, s .is-good)
+may h (tpdo w) m =
+    let s = keeps (h .core) w m in
+    (s .operates, s .is-on, λ t. ap (λ b. b || good (h .core)) (sym (on-events (pdo (communication (h .core)) w) t)) ∙ s .lasts)
 
 pub five-slots : FiveSlots
 five-slots =

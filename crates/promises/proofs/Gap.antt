@@ -1,4 +1,4 @@
--- Proves `Gap` of specs/Gap.antt: no position frame leaves while the reading is missing, and the head announces it.
+-- Proves `Gap` of specs/Gap.antt: no position frame joins while the reading is missing, and the head announces it.
 use Prim.Native.Nat.{ℕ, _≤_}
 use mathlib.Core.Path.{_≡_, refl, sym, ap, _∙_}
 use mathlib.Core.Bool.{Bool, true, false}
@@ -27,7 +27,8 @@ use Rattle.promises.proofs.FiveSlots.{five-slots}
 use Rattle.promises.proofs.Histories.{after-append, valid-after, valid-powered}
 use Rattle.promises.proofs.Inhibit.{inhibit-left, rounded-up}
 use Rattle.promises.proofs.Unrelieved.{Pending, pending-may, stays-told, stays-pending}
-use Rattle.promises.proofs.Hidden.{no-position, no-position-at-first}
+use Rattle.promises.proofs.Hidden.{no-more-positions, no-position-at-first}
+use Rattle.promises.proofs.Silent.{silent-once-told}
 use Rattle.promises.proofs.Known.{known, known-boot-up}
 use Rattle.promises.proofs.SameNode.{node-step, node-after, node-powered}
 use Rattle.promises.proofs.Announced.{announced}
@@ -141,7 +142,8 @@ gap =
       forgotten = λ p cs i. let f = valid p cs .fresh i in (f .0, ap (λ t. t .inhibit) (f .1));
       known = λ p cs k w. let v = valid p cs in known (nodeOf p) (after (powered p) cs .core) (its-node p cs) (v .device) k (v .only k w);
       known-boot-up = λ p cs. known-boot-up (nodeOf p) (after (powered p) cs .core) (its-node p cs) (valid p cs .device);
-      no-position = no-position;
+      no-more-positions = no-more-positions;
+      silent-once-told = silent-once-told;
       no-position-at-first = no-position-at-first;
       missing-is-told = missing-is-told;
       gap-is-told = gap-is-told;

@@ -74,6 +74,10 @@ pub among-those : (t : Kind → Bool) → Among (those t) order
 among-those t = subst (λ ks. Among ks order) (sym (those-due t)) (in-turn .among (λ n. t (kindAt n)) order)
 
 -- none waits, or a kind is first
+pub first-has : (ws : List ℕ) (k : Kind) → first ws ≡ number k → has (number k) ws ≡ true
+first-has [] k e = absurd (omega (arith, positive k, e))
+first-has (x ∷ xs) k e = rw (eq-eqb x (number k) e)
+
 pub first-of : (ws : List ℕ) → Kinds places ws → (ws ≡ []) ⊎ ((k : Kind) × (first ws ≡ number k) × (has (number k) ws ≡ true))
 first-of [] h = inl refl
 first-of (x ∷ xs) h = let e = number-is x (h .0) (h .1) in inr (kindAt x, sym e, rw (eq-eqb x (number (kindAt x)) (sym e)))

@@ -12,12 +12,12 @@ use Rattle.can.specs.declared.Frame.{Frame}
 use Rattle.can.specs.declared.Received.{Received}
 use Rattle.cases.specs.Tests.{within}
 use Rattle.dictionary.specs.Accepted.{on}
-use Rattle.dictionary.specs.Valid.{ValidPdo, ValidDevice}
+use Rattle.dictionary.specs.Valid.{ValidDevice}
 use Rattle.parts.specs.declared.Core.{Core}
 use Rattle.parts.specs.declared.Head.{Head}
 use Rattle.parts.specs.declared.Sensor.the-variants.{Missing, Raw}
 use Rattle.position.specs.Profile.{highestRaw}
-use Rattle.promises.specs.States.{isInitialising, node, communication, pdo, PdoNumber, one, two}
+use Rattle.promises.specs.States.{isInitialising, node, communication, pdo, PdoNumber}
 use Rattle.promises.specs.WaitingLine.{Kind, emergency, sdoReply, heartbeat, tpdo, mayStay, bootUpFrame, frameOf}
 use Rattle.promises.specs.Acts.{Act, nothing, enter, reset, boot, idle, send, take, lose, time, sync, serve, frameBy}
 use Rattle.promises.specs.Calls.{Call, receive, tick, sample, slot, meant, isFrame, frameIn}
@@ -26,7 +26,8 @@ use Rattle.promises.specs.Histories.{frames}
 use Rattle.promises.specs.Gap.{alerts, showsPosition, Known, isBootUp}
 use Rattle.promises.proofs.Causes.{Cause, cause}
 use Rattle.promises.proofs.Answers.{AtSlot, booting, idling, sending, at-slot}
-use Rattle.promises.proofs.Conditions.{beats, shows}
+use Rattle.promises.proofs.Conditions.{beats, keeps}
+use Rattle.promises.proofs.Types.{valid-pdo}
 
 -- the frames that an act sends
 abbrev pub framed : Option Frame → List Frame
@@ -77,15 +78,11 @@ sent-waits h v slot k e = by-act (meant h slot) (at-slot h v) e
 
 -- A PDO that is on has its identifier in 181h..57Fh.
 module _ (c : Core) (v : ValidDevice (c .device)) where
-  valid-pdo : (w : PdoNumber) → ValidPdo (pdo (communication c) w)
-  valid-pdo one = v .settings .communication .pdo1
-  valid-pdo two = v .settings .communication .pdo2
-
   inside : (w : PdoNumber) → mayStay c (tpdo w) ≡ true → within 0x181 0x57F (pdo (communication c) w .identifier) ≡ true
   inside w m =
       let i = pdo (communication c) w .identifier in
-      let accepted = both (eqb (i % 0x80000000 / 0x800) 0) (not (on i) || within 0x181 0x57F i) (valid-pdo w .identifier) in
-      rw (shows c w m .is-on) at (accepted .1)
+      let accepted = both (eqb (i % 0x80000000 / 0x800) 0) (not (on i) || within 0x181 0x57F i) (valid-pdo c v w .identifier) in
+      rw (keeps c w m .is-on) at (accepted .1)
 
 -- Each frame is known by its identifier, and the boot-up frame by its byte.
 module _ (n : ℕ) (f : Frame) where

@@ -6,6 +6,8 @@ pub mod Fits
 pub mod States
 pub mod Device
 pub mod Clocks
+pub mod Types
+pub mod Fixed
 pub mod Counts
 pub mod Valid
 pub mod Refusals
@@ -36,6 +38,7 @@ pub mod Halts
 pub mod Readings
 pub mod Unrelieved
 pub mod Hidden
+pub mod Silent
 pub mod Gap
 pub mod ReplyJoins
 pub mod Service
@@ -54,6 +57,8 @@ pub mod Beats
 pub mod Clocked
 pub mod Moments
 pub mod PassedOver
+pub mod SyncFrames
+pub mod OneBeam
 pub mod Worked
 pub mod Parameters
 pub mod Codes

@@ -36,7 +36,7 @@ module _ (h : Head) (v : Valid h) (c : Call) where
   abbrev later : Core
   later = acted (h .core) (meant h c)
 
-  turns : InOrder (isSlot c) (machine .out h c) (machine .into h c) ws
+  pub turns : InOrder (isSlot c) (machine .out h c) (machine .into h c) ws
   turns = laws places .in-order (isSlot c) (machine .out h c) (machine .into h c) ws
 
   module _ (k : Kind) (w : waits h k ≡ true) (y : waits (step h c) k ≡ true) where

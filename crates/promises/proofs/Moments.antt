@@ -1,18 +1,14 @@
 -- Proves `Moments` of specs/Moments.antt: a kind joins at 01's moments, and at no others.
 use Prim.Native.Nat.{ℕ}
 use native.Mathlib.Omega.{arith}
-use lib.Dec.{eqb, leb, ltb}
+use lib.Dec.{ltb}
 use mathlib.Core.Path.{_≡_, refl, sym, ap, _∙_}
-use mathlib.Core.Logic.{inl, inr, ⊎-elim}
-use mathlib.Core.Bool.{Bool, true, false, not, _&&_, _||_, and-false, or-false}
+use mathlib.Core.Bool.{Bool, true, false, not}
 use mathlib.Core.List.{List, [], _∷_}
-use borrow.Author.Tests.{eqb-true, eqb-false, ne-eqb, leb-true, le-leb, not-true}
-use Rattle.cases.specs.Tests.{within}
+use borrow.Author.Tests.{eqb-true, ne-eqb, not-true}
 use Rattle.cases.proofs.Cases.{by, test, both, true-false}
 use Rattle.can.specs.declared.Received.{Received}
 use Rattle.position.specs.Profile.{highestRaw}
-use Rattle.entries.specs.declared.Pdo.{Pdo}
-use Rattle.dictionary.specs.Valid.{ValidPdo}
 use Rattle.sdo.specs.Request.{aborting}
 use Rattle.sdo.specs.Service.{answer}
 use Rattle.sdo.proofs.UploadLaws.{uploads}
@@ -21,8 +17,8 @@ use Rattle.parts.specs.declared.Core.{Core}
 use Rattle.parts.specs.declared.Head.{Head}
 use Rattle.parts.specs.declared.Sensor.the-variants.{Missing, Raw}
 use Rattle.promises.specs.States.{operational, stopped, preOperational, isIn, isInitialising}
-use Rattle.promises.specs.States.{communication, PdoNumber, one, two, clock}
-use Rattle.promises.specs.WaitingLine.{Kind, emergency, sdoReply, heartbeat, tpdo, mayStay, mayJoin}
+use Rattle.promises.specs.States.{communication, PdoNumber, clock}
+use Rattle.promises.specs.WaitingLine.{Kind, emergency, sdoReply, heartbeat, tpdo, mayJoin}
 use Rattle.promises.specs.Timers.{completes, synchronous}
 use Rattle.promises.specs.Acts.{Act, nothing, enter, reset, boot, idle, send, take, lose, time}
 use Rattle.promises.specs.Acts.{sync, serve, acted, emergencyOnly, momentsOf}
@@ -31,29 +27,22 @@ use Rattle.promises.specs.Valid.{waits, Valid}
 use Rattle.promises.specs.Meant.{dueTo}
 use Rattle.promises.specs.Histories.{after, PowerUp, powered}
 use Rattle.promises.specs.Gap.{alerts}
-use Rattle.promises.specs.Moments.{countBy, since, Counts, countsAfter, Ready, OnEvents, OnSyncs, pdoOf}
+use Rattle.promises.specs.Moments.{countBy, since, Counts, countsAfter, Ready, pdoOf}
 use Rattle.promises.specs.Moments.{beatsAnew, beatCounts, ticksAnew, tickCounts, syncsAnew, synchronises}
 use Rattle.promises.specs.Moments.{Begins, alerting, replies, beats, enters, elapses, syncs, Moments}
 use Rattle.promises.proofs.KindNumbers.{sent-as}
-use Rattle.promises.proofs.Waits.{sends, waits-act}
+use Rattle.promises.proofs.Waits.{waits-act, waits-new}
 use Rattle.promises.proofs.States.{not-operational}
 use Rattle.promises.proofs.Valid.{valid-step}
 use Rattle.promises.proofs.Unmeant.{aborted}
 use Rattle.promises.proofs.Causes.{Cause, cause, requests}
 use Rattle.promises.proofs.Conditions.{Alerts, alerts as alerts-so, shows}
+use Rattle.promises.proofs.Types.{on-events, events, on-syncs, syncs-on, valid-pdo}
 use Rattle.promises.proofs.Histories.{at-power-up, valid-after, valid-powered}
 use Rattle.promises.proofs.Remainders.{its-turn, in-turn}
 use Rattle.promises.proofs.Tested.{is-written, is-entry, is-sync, entered, synchronised}
 use Rattle.promises.proofs.Beats.{Beats, beats-step}
 use Rattle.promises.proofs.Clocked.{Ticks, Syncs, ticks-step, syncs-step}
-
--- A kind that did not wait and now does had its moment, and may join: m and j; s whether it stays and is not sent, w whether it waited.
-had-moment : (m j t s w : Bool) → w ≡ false → ((m && j) || (t && (s && w))) ≡ true → (m ≡ true) × (j ≡ true)
-had-moment m j t s true n e = true-false n
-had-moment m j t s false n e = both m j (sym (or-false (m && j)) ∙ ap (λ u. m && j || u) (sym none) ∙ e)
-  where
-    none : (t && (s && false)) ≡ false
-    none = rw (and-false s) (and-false t)
 
 -- when no kind but the emergency is due
 no-moment : (k : Kind) → alerts k ≡ false → emergencyOnly k ≡ false
@@ -62,27 +51,8 @@ no-moment sdoReply o = refl
 no-moment heartbeat o = refl
 no-moment (tpdo w) o = refl
 
--- the types of a PDO
-module _ (p : Pdo) where
-  on-events : OnEvents p → synchronous p ≡ false
-  on-events = ⊎-elim (λ (e : p .transmission ≡ 254). rw e) (λ (e : p .transmission ≡ 255). rw e)
-
-  events : ValidPdo p → synchronous p ≡ false → OnEvents p
-  events v e =
-      let t = p .transmission in
-      let late : within 254 255 t ≡ true = rw e at (v .transmission) in
-      let u = both (leb 254 t) (leb t 255) late in
-      test (eqb t 254) (λ y. inl (eqb-true t 254 y))
-      (λ y. inr (omega (arith, leb-true 254 t (u .0), leb-true t 255 (u .1), eqb-false t 254 y)))
-
-  on-syncs : OnSyncs p → synchronous p ≡ true
-  on-syncs e = rw (le-leb 1 (p .transmission) (e .0), le-leb (p .transmission) 240 (e .1))
-
-  syncs-on : synchronous p ≡ true → OnSyncs p
-  syncs-on e = let u = both (leb 1 (p .transmission)) (leb (p .transmission) 240) e in (leb-true 1 _ (u .0), leb-true _ 240 (u .1))
-
 -- what the calls have counted is what the timers have, as far as a kind can join
-record Kept (c : Core) (n : Counts) : Type 0 where
+pub record Kept (c : Core) (n : Counts) : Type 0 where
   pub beats : Beats c (n .beats)
   pub ticks : (w : PdoNumber) → Ticks w c (n .ticks w)
   pub syncs : (w : PdoNumber) → Syncs w c (n .syncs w)
@@ -126,21 +96,13 @@ module _ (h : Head) (n : Counts) (v : Valid h) (kept : Kept (h .core) n) where
   -- and the other way
   has-joined : (x : Call) (k : Kind) → waits h k ≡ false → waits (step h x) k ≡ true
       → (momentsOf c (meant h x) k ≡ true) × (mayJoin (acted c (meant h x)) k ≡ true)
-  has-joined x k n y =
-      let a = meant h x in
-      had-moment (momentsOf c a k) (mayJoin (acted c a) k) (not (mayStay c k && not (mayStay (acted c a) k))) (not (sends (isSlot x) h k))
-      (waits h k)
-      n (sym (waits-act (isSlot x) h a v k) ∙ y)
+  has-joined x k = waits-new (isSlot x) h (meant h x) v k
 
   abbrev Joins : Call → Kind → Act → Type 0
   Joins x k a = momentsOf c a k ≡ true → mayJoin (acted c a) k ≡ true → Begins h n x k
 
   never : {A : Type 0} {b : Bool} → b ≡ true → b ≡ false → A
   never y e = true-false (sym y ∙ e)
-
-  valid-pdo : (w : PdoNumber) → ValidPdo (pdoOf h w)
-  valid-pdo one = v .device .settings .communication .pdo1
-  valid-pdo two = v .device .settings .communication .pdo2
 
   by-frame : (f : Received) (a : Act) → Cause h f a → meant h (receive f) ≡ a → (k : Kind) → alerts k ≡ false → Joins (receive f) k a
   by-frame f nothing x e k o m y = true-false (sym m)
@@ -150,7 +112,7 @@ module _ (h : Head) (n : Counts) (v : Valid h) (kept : Kept (h .core) n) where
   by-frame f (enter operational) x e (tpdo w) o m y =
       let s = shows (acted c (enter operational)) w y in
       let t = not-true (synchronous (pdoOf h w)) m in
-      enters (x .0) (x .1) (record { is-on = s .is-on; is-good = s .is-good }) (events (pdoOf h w) (valid-pdo w) t)
+      enters (x .0) (x .1) (record { is-on = s .is-on; is-good = s .is-good }) (events (pdoOf h w) (valid-pdo c (v .device) w) t)
   by-frame f (enter stopped) x e (tpdo w) o m y = true-false (sym m)
   by-frame f (enter preOperational) x e (tpdo w) o m y = true-false (sym m)
   by-frame f (reset r) x e k o m y = never m (no-moment k o)
@@ -189,7 +151,7 @@ module _ (h : Head) (n : Counts) (v : Valid h) (kept : Kept (h .core) n) where
       let k = clock (c .timers) w in
       let s = shows c w y in
       let d = both (not (synchronous p)) (completes (p .event) (k .ticks)) m in
-      elapses (s .operates) (record { is-on = s .is-on; is-good = s .is-good }) (events p (valid-pdo w) (not-true _ (d .0)))
+      elapses (s .operates) (record { is-on = s .is-on; is-good = s .is-good }) (events p (valid-pdo c (v .device) w) (not-true _ (d .0)))
       (its-turn _ _ _ (kept .ticks w (s .operates)) (d .1))
 
   -- any but the emergency
@@ -229,7 +191,7 @@ kept-since anew counts P next (x ∷ cs) h n v r =
 starts : (p : PowerUp) → isInitialising (powered p .core) ≡ true
 starts p = at-power-up (λ (h : Head). isInitialising (h .core) ≡ true) (λ n i. refl) p
 
-counts-kept : (p : PowerUp) (cs : List Call) → Kept (after (powered p) cs .core) (countsAfter p cs)
+pub counts-kept : (p : PowerUp) (cs : List Call) → Kept (after (powered p) cs .core) (countsAfter p cs)
 counts-kept p cs =
     let v = valid-powered p in
     let idle-yet = not-operational (powered p .core) (starts p) in

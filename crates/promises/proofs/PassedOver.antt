@@ -1,33 +1,38 @@
 -- Proves `PassedOver` of specs/PassedOver.antt.
 use Prim.Native.Nat.{ℕ, suc, _%_}
-use native.Mathlib.Omega.{arith}
 use native.Mathlib.Nat.{suc-mod, zero-mod}
 use mathlib.Core.Path.{_≡_, refl, sym, ap, _∙_}
-use mathlib.Core.Logic.{_↔_, ⊎-elim}
-use mathlib.Core.Bool.{Bool, true, false}
+use mathlib.Core.Logic.{_↔_}
+use mathlib.Core.Bool.{Bool, true, false, _&&_, and-false, and-not-self, or-true}
 use mathlib.Core.List.{List, [], _∷_, _++_}
 use Rattle.cases.proofs.Cases.{by, by₂, test, true-false}
-use Rattle.entries.specs.declared.Pdo.{Pdo}
+use Rattle.can.specs.declared.Received.{Received}
+use Rattle.can.specs.Number.{lowFirst}
 use Rattle.entries.specs.declared.Reading.{Reading}
 use Rattle.parts.specs.declared.Head.{Head}
 use Rattle.parts.specs.declared.Sensor.{Sensor}
 use Rattle.parts.specs.declared.Sensor.the-variants.{Missing, Raw}
-use Rattle.promises.specs.States.{good, PdoNumber}
-use Rattle.promises.specs.WaitingLine.{tpdo}
+use Rattle.promises.specs.States.{good, PdoNumber, fixedFor}
+use Rattle.promises.specs.Timers.{OnEvents, OnSyncs}
+use Rattle.promises.specs.WaitingLine.{tpdo, mayStay, mayJoin, present, carried, frame, frameOf}
+use Rattle.promises.specs.Acts.{sync, fixesNow, acted, momentsOf}
 use Rattle.promises.specs.Calls.{Call, receive, tick, step}
 use Rattle.promises.specs.Valid.{waits, Valid}
 use Rattle.promises.specs.Histories.{after, PowerUp, powered}
 use Rattle.promises.specs.Readings.{lastSample, readingOf}
-use Rattle.promises.specs.Gap.{isGoodSample}
-use Rattle.promises.specs.Moments.{countBy, since, pdoOf, Ready, OnEvents, OnSyncs, EachOf, Begins, Counts, countsAfter, Moments}
+use Rattle.promises.specs.Meant.{Synchronises}
+use Rattle.promises.specs.Moments.{countBy, since, pdoOf, Ready, EachOf, Begins, Counts, countsAfter, Moments}
 use Rattle.promises.specs.Moments.{ticksAnew, tickCounts, syncsAnew, synchronises}
 use Rattle.promises.specs.Moments as moments
 use Rattle.promises.specs.PassedOver.{Due, enters, elapses, syncs, PassedOver}
-use Rattle.promises.proofs.Valid.{valid-step}
-use Rattle.promises.proofs.Conditions.{shows}
+use Rattle.promises.proofs.Waits.{waits-act}
+use Rattle.promises.proofs.Meant.{core-step}
+use Rattle.promises.proofs.Conditions.{keeps}
+use Rattle.promises.proofs.Types.{on-events, no-both}
+use Rattle.promises.proofs.Fixed.{fixed-by}
 use Rattle.promises.proofs.Histories.{valid-after, valid-powered}
-use Rattle.promises.proofs.Readings.{tells, stays-missing}
-use Rattle.promises.proofs.Tested.{is-entry, is-sync}
+use Rattle.promises.proofs.Readings.{tells}
+use Rattle.promises.proofs.Tested.{is-entry, is-sync, synchronised}
 use Rattle.promises.proofs.Moments.{moments-so}
 
 pub since-append : (anew counts : Head → Call → Bool) (xs : List Call) (h : Head) (ys : List Call) (n : ℕ)
@@ -67,11 +72,7 @@ module _ (period : ℕ) where
     counted-on xs h x ds n e =
         rw (since-append anew counts xs h (x ∷ ds) n) (like-falls _ _ (like-since ds (step (after h xs) x) _ 0 e))
 
--- types 254 and 255 are none of 1..240
-no-both : {A : Type 0} (p : Pdo) → OnEvents p → OnSyncs p → A
-no-both p e s = absurd (⊎-elim (λ (t : p .transmission ≡ 254). omega (arith, t, s .1)) (λ (t : p .transmission ≡ 255). omega (arith, t, s .1)) e)
-
-a-sample : (s : Sensor) → readingOf s .good ≡ true → (r : ℕ) × (s ≡ Raw r)
+pub a-sample : (s : Sensor) → readingOf s .good ≡ true → (r : ℕ) × (s ≡ Raw r)
 a-sample Missing e = true-false (sym e)
 a-sample (Raw r) e = (r, refl)
 
@@ -88,19 +89,6 @@ module _ (p : PowerUp) (cs : List Call) where
   is-good : good (h .core) ≡ readingOf (lastSample Missing cs) .good
   is-good = ap (λ (r : Reading). r .good) (tells p cs .reading-is)
 
-  -- a due moment is no sample
-  still-missing : {c : Call} {w : PdoNumber} → Due h n c w → isGoodSample c ≡ false
-  still-missing (enters m o t) = refl
-  still-missing (elapses o t e) = refl
-  still-missing (syncs s t e) = refl
-
-  passes : (c : Call) (w : PdoNumber) → Due h n c w → lastSample Missing cs ≡ Missing → waits (step h c) (tpdo w) ≡ false
-  passes c w d e =
-      test (waits (step h c) (tpdo w))
-      (λ y. true-false (sym (shows (step h c .core) w (valid-step h c v .only (tpdo w) y) .is-good)
-      ∙ stays-missing h v c (still-missing d) (is-good ∙ ap (λ s. readingOf s .good) e)))
-      (λ y. y)
-
   begins : {c : Call} {w : PdoNumber} → Due h n c w → Ready h w → Begins h n c (tpdo w)
   begins (enters m o t) r = moments.enters m o r t
   begins (elapses o t e) r = moments.elapses o r t e
@@ -110,6 +98,41 @@ module _ (p : PowerUp) (cs : List Call) where
   due (moments.enters m o r t) = (enters m o t, r)
   due (moments.elapses o r t e) = (elapses o t e, r)
   due (moments.syncs s r t e) = (syncs s t e, r)
+
+  lost : lastSample Missing cs ≡ Missing → good (h .core) ≡ false
+  lost e = is-good ∙ ap (λ s. readingOf s .good) e
+
+  -- a SYNC withdraws no PDO
+  waits-on : (f : Received) (w : PdoNumber) → Synchronises h f → waits h (tpdo w) ≡ true → waits (step h (receive f)) (tpdo w) ≡ true
+  waits-on f w s y =
+      rw (synchronised h f s, waits-act false h sync v (tpdo w), and-not-self (mayStay (h .core) (tpdo w)), y)
+      (or-true (momentsOf (h .core) sync (tpdo w) && mayJoin (acted (h .core) sync) (tpdo w)))
+
+  -- nor does it fix a position while the reading is missing
+  same : (f : Received) (w : PdoNumber) → Synchronises h f → good (h .core) ≡ false
+      → frameOf (step h (receive f) .core) (tpdo w) ≡ frameOf (h .core) (tpdo w)
+  same f w s g =
+      let c = h .core in
+      let none : fixesNow c w ≡ false = rw g (simp and-false) in
+      let kept : fixedFor (acted c sync .fixed) w ≡ fixedFor (c .fixed) w = fixed-by c w ∙ rw none in
+      ap (λ x. frameOf x (tpdo w)) (core-step h (receive f) ∙ ap (acted c) (synchronised h f s))
+      ∙ ap (λ x. let p = pdoOf h w in frame (p .identifier) 4 (lowFirst 4 (carried p (present c) x))) kept
+
+  -- of types 254 and 255 none waits while the reading is missing
+  waits-through : {c : Call} {w : PdoNumber} → Due h n c w → good (h .core) ≡ false → waits h (tpdo w) ≡ true
+      → (waits (step h c) (tpdo w) ≡ true) × (frameOf (step h c .core) (tpdo w) ≡ frameOf (h .core) (tpdo w))
+  waits-through {c} {w} (enters m o t) g y = true-false (sym (keeps (h .core) w (v .only (tpdo w) y) .operates) ∙ o)
+  waits-through {c} {w} (elapses o t e) g y =
+      true-false (sym (keeps (h .core) w (v .only (tpdo w) y) .lasts) ∙ rw (on-events (pdoOf h w) t, g))
+  waits-through {c} {w} (syncs {f} s t e) g y = (waits-on f w s y, same f w s g)
+
+  passes : (c : Call) (w : PdoNumber) → Due h n c w → lastSample Missing cs ≡ Missing → waits (step h c) (tpdo w) ≡ waits h (tpdo w)
+  passes c w d e =
+      test (waits h (tpdo w))
+      (λ y. waits-through d (lost e) y .0 ∙ sym y)
+      (λ y. test (waits (step h c) (tpdo w))
+      (λ z. true-false (sym (due (moments-so p cs .only-then c (tpdo w) y z) .1 .is-good) ∙ lost e))
+      (λ z. z ∙ sym y))
 
   abbrev TicksOn : Call → PdoNumber → Type 0
   TicksOn c w = Like (pdoOf h w .event) (countBy (ticksAnew w) tickCounts h c (n .ticks w)) 0
@@ -133,6 +156,7 @@ module _ (p : PowerUp) (cs : List Call) where
       let m : Moments p cs = moments-so p cs in
       record {
         passes = passes;
+        same-frame = λ c w d e y. waits-through d (lost e) y .1;
         joins = λ c w r d e o.
             m .joins c (tpdo w) (begins d (record { is-on = o; is-good = is-good ∙ ap (λ s. readingOf s .good) e }));
         not-later = λ c w x y.

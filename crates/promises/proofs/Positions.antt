@@ -7,7 +7,7 @@ use mathlib.Core.Path.{_≡_, refl, sym, ap, _∙_}
 use mathlib.Core.Bool.{Bool, true, false, not, _||_, cond}
 use mathlib.Core.List.{List, [], _∷_}
 use mathlib.Core.Option.{Option, some}
-use Rattle.cases.proofs.Cases.{test, neither, true-false}
+use Rattle.cases.proofs.Cases.{by, test, neither, true-false}
 use Rattle.can.specs.declared.Received.{Received}
 use Rattle.can.proofs.Number.{numbers}
 use Rattle.position.specs.declared.Profile.{Profile}
@@ -18,6 +18,8 @@ use Rattle.entries.specs.Keys.{presetKey, operatingKey, rangeKey, stepKey}
 use Rattle.dictionary.specs.declared.read.Shown.{Shown}
 use Rattle.dictionary.specs.declared.read.Shown.the-variants.{Blank, Number}
 use Rattle.cases.specs.Tests.{within}
+use Rattle.waiting.specs.Line.{first}
+use Rattle.waiting.specs.Places.{waiting}
 use Rattle.dictionary.specs.Writes.{rescales, written}
 use Rattle.dictionary.specs.Effects.{effects, anew}
 use Rattle.sdo.specs.Reply.{carriedOut}
@@ -25,8 +27,9 @@ use Rattle.sdo.specs.Service.{Due, none, value, confirmation, abort, upload, an
 use Rattle.parts.specs.declared.Core.{Core}
 use Rattle.parts.specs.declared.Head.{Head}
 use Rattle.parts.specs.declared.Sensor.the-variants.{Missing, Raw}
-use Rattle.promises.specs.States.{operational, isIn, node, ofNode, ofCommunication}
-use Rattle.promises.specs.WaitingLine.{Kind, emergency, sdoReply, heartbeat, tpdo, frameOf}
+use Rattle.promises.specs.States.{operational, isIn, node, communication, good, pdo, fixedFor, ofNode, ofCommunication}
+use Rattle.promises.specs.Timers.{synchronous}
+use Rattle.promises.specs.WaitingLine.{Kind, emergency, sdoReply, heartbeat, tpdo, number, present, carried, frameOf}
 use Rattle.promises.specs.Acts.{Act, boot, idle, send, frameBy}
 use Rattle.promises.specs.Calls.{Call, receive, slot, meant, step, isFrame, frameIn, slotAnswer}
 use Rattle.promises.specs.Valid.{waits, Valid}
@@ -37,7 +40,9 @@ use Rattle.promises.specs.Readings.{readsIn, profileOf, repositions, Mov
 use Rattle.promises.proofs.Valid.{valid-step}
 use Rattle.promises.proofs.Causes.{writes as writes-so}
 use Rattle.promises.proofs.Answers.{AtSlot, booting, idling, sending, at-slot}
-use Rattle.promises.proofs.Conditions.{shows}
+use Rattle.promises.proofs.Conditions.{keeps}
+use Rattle.promises.proofs.Types.{on-events}
+use Rattle.promises.proofs.Fixed.{present-below}
 use Rattle.promises.proofs.Altered.{Altered, heard, timed, sent, refused, took, lost, restarted, served as is-served, altered}
 use Rattle.promises.proofs.Histories.{valid-reachable}
 use Rattle.promises.proofs.Known.{known, known-boot-up}
@@ -97,30 +102,31 @@ module _ (h : Head) (v : Valid h) where
       ∙ sym (position-shown (h .core .device) _)
 
   -- a position frame is that of a PDO
-  carries-as : (k : Kind) → waits h k ≡ true → showsPosition k ≡ true → Carries h (frameOf (h .core) k)
-  carries-as emergency w e = true-false (sym e)
-  carries-as sdoReply w e = true-false (sym e)
-  carries-as heartbeat w e = true-false (sym e)
-  carries-as (tpdo which) w e =
-      let d = h .core .device in
-      let p = d .settings .profile in
-      let below : position p (d .reading .raw) < 0x100000000 =
-      omega (
-        arith,
-        position-laws .positions p (d .reading .raw) (v .device .settings .profile) .below,
-        v .device .settings .profile .high,
-      ) in
+  carries-as : (k : Kind) → waits h k ≡ true → first (waiting (h .line)) ≡ number k → showsPosition k ≡ true → Carries h (frameOf (h .core) k)
+  carries-as emergency w i e = true-false (sym e)
+  carries-as sdoReply w i e = true-false (sym e)
+  carries-as heartbeat w i e = true-false (sym e)
+  carries-as (tpdo which) w i e =
+      let c = h .core in
+      let p = pdo (communication c) which in
+      let shown = carried p (present c) (fixedFor (c .fixed) which) in
+      let below : shown < 1048576 =
+      by (λ n. n < 1048576) (synchronous p) (λ _. v .fixed which) (λ _. present-below c (v .device)) in
       record {
         which = which;
+        is-first = i;
         identifier = refl;
         length = refl;
-        position = position p (d .reading .raw);
-        reads-it = position-shown d _ ∙ shows-good d (shows (h .core) which (v .only (tpdo which) w) .is-good);
+        position = shown;
+        reads-it = λ t.
+            let at-slot = on-events p t in
+            let is-good : good c ≡ true = rw at-slot at (keeps c which (v .only (tpdo which) w) .lasts) in
+            position-shown (c .device) _ ∙ shows-good (c .device) is-good ∙ rw at-slot;
         its-bytes = refl;
-        whole = numbers .back 4 (position p (d .reading .raw)) below;
+        whole = numbers .back 4 shown (omega (arith, below));
       }
 
-  carries : isFrame (slotAnswer h) ≡ true → within 0x181 0x57F (frameIn (slotAnswer h) .identifier) ≡ true → Carries h (frameIn (slotAnswer h))
+  pub carries : isFrame (slotAnswer h) ≡ true → within 0x181 0x57F (frameIn (slotAnswer h) .identifier) ≡ true → Carries h (frameIn (slotAnswer h))
   carries = by-act (meant h slot) (at-slot h v)
     where
       by-act : (a : Act) → AtSlot h a → let x = frameBy (h .core) a in isFrame x ≡ true → isPosition (frameIn x) ≡ true
@@ -128,7 +134,7 @@ module _ (h : Head) (v : Valid h) where
       by-act boot (booting i) f b = true-false (sym b ∙ known-boot-up (node (h .core)) (h .core) refl (v .device) .position)
       by-act idle (idling i e) f b = true-false (sym f)
       by-act (send k) (sending _ i e w) f b =
-          carries-as k w (sym (known (node (h .core)) (h .core) refl (v .device) k (v .only k w) .position) ∙ b)
+          carries-as k w e (sym (known (node (h .core)) (h .core) refl (v .device) k (v .only k w) .position) ∙ b)
 
 -- an accepted preset
 presets : (h : Head) → Reachable h → (f : Received) (x : ℕ) → Writes h f presetKey x

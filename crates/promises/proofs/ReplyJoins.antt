@@ -15,7 +15,7 @@ use Rattle.waiting.proofs.Laws.{laws}
 use Rattle.waiting.proofs.Order.{join-is}
 use Rattle.waiting.proofs.After.{has-append, has-withdraws}
 use Rattle.entries.specs.Keys.{emergencyKey}
-use Rattle.dictionary.specs.Accepted.{on}
+use Rattle.dictionary.specs.Accepted.{on, barred}
 use Rattle.dictionary.specs.Writes.{written}
 use Rattle.sdo.specs.declared.reply.Effect.the-variants.{Reply}
 use Rattle.sdo.specs.declared.reply.Served.{Served}
@@ -132,15 +132,15 @@ module _ (h : Head) (valid : Valid h) (l : isLive (h .core) ≡ true) (free : wa
       served-line s (ap (withdraws ws) none-goes) none-comes
 
   -- an accepted write
-  pub write-line : (f : List ℕ) (k v : ℕ)
+  pub write-line : (f : List ℕ) (k v : ℕ) → barred (c .device) k v ≡ false
       → waiting (act false h (serve (confirmed f k v)) .line) ≡ withdraws ws (those (takes k v)) ++ those (brings h k v)
   unfolding written
-  write-line f k v =
+  write-line f k v b =
       let now = serving c (confirmed f k v) in
       let alike : (x : Kind) → has (number x) ws ≡ true → has (number x) (goes c now) ≡ has (number x) (those (takes k v)) =
       λ x w. has-those (λ y. mayStay c y && not (mayStay now y)) x
       ∙ ap (λ t. t && not (mayStay now x)) (valid .only x w)
-      ∙ ends c f k v x (valid .only x w)
+      ∙ ends c f k v b x (valid .only x w)
       ∙ sym (has-those (takes k v) x) in
       let still =
       has-withdraws line.emergency ws (those (takes k v)) ∙ ap (λ t. not t && waits h emergency) (has-those (takes k v) emergency) in
@@ -151,12 +151,12 @@ module _ (h : Head) (valid : Valid h) (l : isLive (h .core) ≡ true) (free : wa
       (withdrawn-alike ws (goes c now) (those (takes k v)) (valid .line .kinds) alike)
       (ap (λ t. isAlerting now && not t) still ∙ comes)
 
-  pub write-waits : (f : List ℕ) (k v : ℕ) (x : Kind)
+  pub write-waits : (f : List ℕ) (k v : ℕ) → barred (c .device) k v ≡ false → (x : Kind)
       → waits (act false h (serve (confirmed f k v))) x ≡ ((not (takes k v x) && waits h x) || brings h k v x)
-  write-waits f k v x =
+  write-waits f k v b x =
       let out = those (takes k v) in
       let into = those (brings h k v) in
-      ap (has (number x)) (write-line f k v)
+      ap (has (number x)) (write-line f k v b)
       ∙ has-append (number x) (withdraws ws out) into
       ∙ ap (λ t. t || has (number x) into) (has-withdraws (number x) ws out)
       ∙ ap₂ (λ t u. (not t && waits h x) || u) (has-those (takes k v) x) (has-those (brings h k v) x)

@@ -26,6 +26,7 @@ use Rattle.promises.proofs.Fits.{Fits, fits}
 use Rattle.promises.proofs.States.{named-act, fresh-act}
 use Rattle.promises.proofs.Device.{device-act}
 use Rattle.promises.proofs.Counts.{resting, timers-act}
+use Rattle.promises.proofs.Fixed.{fixed-act, none-fixed}
 
 -- A kind that waits afterwards may stay: m its moment, j whether it may join, y
 -- and z whether it may stay before and after, w whether it waited.
@@ -74,6 +75,7 @@ module _ (b : Bool) (h : Head) where
         timers = timers-act (h .core) (v .timers) b a f (v .device);
         fresh = fresh-act b (h .core) a f (v .fresh);
         line = let held = holds-act b h a v in rw (laws places .all held) held;
+        fixed = fixed-act (h .core) (v .device) (v .fixed) a;
         only = only-act a v;
         urgent = urgent-act a f v;
       }
@@ -87,6 +89,7 @@ handed h t v =
       timers = v .timers;
       fresh = v .fresh;
       line = v .line;
+      fixed = v .fixed;
       only = v .only;
       urgent = v .urgent;
     }
@@ -113,6 +116,7 @@ valid-started n i low high named =
       timers = resting (factory n .communication);
       fresh = λ _. (refl, refl);
       line = laws places .none;
+      fixed = none-fixed;
       only = λ k e. true-false (sym e);
       urgent = λ e. true-false (sym e);
     }

@@ -1,11 +1,11 @@
 -- Who waits after an act, in closed form: the kinds that joined, and those that waited, were not sent and kept their condition.
 use Prim.Native.Nat.{ℕ}
 use native.Mathlib.Omega.{arith}
-use mathlib.Core.Path.{_≡_, sym, _∙_}
-use mathlib.Core.Bool.{Bool, true, false, not, _&&_, _||_}
+use mathlib.Core.Path.{_≡_, sym, ap, _∙_}
+use mathlib.Core.Bool.{Bool, true, false, not, _&&_, _||_, and-false, or-true, or-false}
 use mathlib.Core.List.{List}
 use lib.Dec.{eqb}
-use Rattle.cases.proofs.Cases.{test, true-false}
+use Rattle.cases.proofs.Cases.{test, both, true-false}
 use Rattle.waiting.specs.Line as line
 use Rattle.waiting.specs.Line.{places, has, first}
 use Rattle.waiting.specs.Places.{waiting, Holds}
@@ -13,17 +13,21 @@ use Rattle.waiting.specs.Calls.{after}
 use Rattle.waiting.proofs.Laws.{laws}
 use Rattle.parts.specs.declared.Core.{Core}
 use Rattle.parts.specs.declared.Head.{Head}
+use Rattle.promises.specs.States.{communication, pdo}
+use Rattle.promises.specs.Timers.{synchronous}
 use Rattle.promises.specs.WaitingLine.{Kind, emergency, sdoReply, heartbeat, tpdo, number, mayStay, mayJoin}
 use Rattle.promises.specs.Acts.{Act, acted, momentsOf, goes, comes, settledTo, act}
 use Rattle.promises.specs.Valid.{waits, Valid}
 use Rattle.promises.proofs.KindNumbers.{has-those, named-those}
+use Rattle.promises.proofs.Conditions.{shows}
 
 -- A kind that may join may stay,
 pub join-stay : (c : Core) (k : Kind) → mayJoin c k ≡ true → mayStay c k ≡ true
 join-stay c emergency y = y
 join-stay c sdoReply y = y
 join-stay c heartbeat y = y
-join-stay c (tpdo w) y = y
+join-stay c (tpdo w) y =
+    let s = shows c w y in rw (s .operates, s .is-on, s .is-good) (or-true (synchronous (pdo (communication c) w)))
 
 -- and a kind that may not stay may not join.
 pub stay-join : (c : Core) (k : Kind) → mayStay c k ≡ false → mayJoin c k ≡ false
@@ -36,6 +40,14 @@ reply-waiting h v = laws places .waits line.sdoReply (omega arith) (v .line)
 -- whether a slot sends that kind
 abbrev pub sends : Bool → Head → Kind → Bool
 sends slot h k = slot && eqb (first (waiting (h .line))) (number k)
+
+-- A kind that did not wait and now does had its moment, and may join: m and j; s whether it stays and is not sent, w whether it waited.
+had-moment : (m j t s w : Bool) → w ≡ false → ((m && j) || (t && (s && w))) ≡ true → (m ≡ true) × (j ≡ true)
+had-moment m j t s true n e = true-false n
+had-moment m j t s false n e = both m j (sym (or-false (m && j)) ∙ ap (λ u. m && j || u) (sym none) ∙ e)
+  where
+    none : (t && (s && false)) ≡ false
+    none = rw (and-false s) (and-false t)
 
 module _ (slot : Bool) (h : Head) (a : Act) (v : Valid h) where
   abbrev c : Core
@@ -64,3 +76,8 @@ module _ (slot : Bool) (h : Head) (a : Act) (v : Valid h) where
         has-those (λ j. momentsOf c a j && mayJoin later j) k,
         has-those (λ j. mayStay c j && not (mayStay later j)) k,
       )
+
+  pub waits-new : (k : Kind) → waits h k ≡ false → waits (act slot h a) k ≡ true → (momentsOf c a k ≡ true) × (mayJoin later k ≡ true)
+  waits-new k n y =
+      had-moment (momentsOf c a k) (mayJoin later k) (not (mayStay c k && not (mayStay later k))) (not (sends slot h k)) (waits h k)
+      n (sym (waits-act k) ∙ y)

@@ -2,7 +2,7 @@
 use lib.Dec.{eqb, ltb}
 use mathlib.Core.Path.{_≡_, refl, sym, ap, ap₂, _∙_}
 use mathlib.Core.Logic.{_⊎_, inl, inr}
-use mathlib.Core.Bool.{Bool, true, false, not}
+use mathlib.Core.Bool.{Bool, true, false, not, or-true}
 use borrow.Author.Tests.{eqb-true, not-true, ltb-false}
 use Rattle.cases.proofs.Cases.{by, both, test, true-false}
 use Rattle.can.specs.declared.Received.{Received}
@@ -16,7 +16,8 @@ use Rattle.parts.specs.declared.Core.{Core}
 use Rattle.parts.specs.declared.Head.{Head}
 use Rattle.parts.specs.declared.Sensor.{Sensor}
 use Rattle.parts.specs.declared.Sensor.the-variants.{Missing, Raw}
-use Rattle.promises.specs.States.{operational, stopped, preOperational, isInitialising, PdoNumber}
+use Rattle.promises.specs.States.{operational, stopped, preOperational, isInitialising, communication, PdoNumber, pdo}
+use Rattle.promises.specs.Timers.{synchronous}
 use Rattle.promises.specs.WaitingLine.{Kind, emergency, sdoReply, heartbeat, tpdo, number, mayStay}
 use Rattle.promises.specs.Acts.{Act, nothing, enter, reset, boot, idle, send, take, lose, time, sync, serve, acted}
 use Rattle.promises.specs.Calls.{Call, receive, tick, sample, slot, meant, step}
@@ -28,7 +29,10 @@ use Rattle.promises.proofs.Slots.{no-stay}
 use Rattle.promises.proofs.Meant.{core-step}
 use Rattle.promises.proofs.Causes.{Cause, cause}
 use Rattle.promises.proofs.Answers.{AtSlot, booting, idling, sending, at-slot}
-use Rattle.promises.proofs.Conditions.{alerts, beats, shows, ends}
+use Rattle.promises.proofs.Conditions.{alerts, beats, keeps, ends}
+use Rattle.promises.proofs.Types.{events, valid-pdo}
+use Rattle.promises.proofs.Counts.{unbarred}
+use Rattle.promises.proofs.Effects.{told}
 
 -- the one kind that entering Stopped does not take
 abbrev beating : Kind → Bool
@@ -58,7 +62,7 @@ module _ (h : Head) (f : Received) where
   beat-served (abort m) r e y n = goes-on y n
   beat-served (upload b t) r e y n = goes-on y n
   beat-served (confirmation k v) r e y n =
-      let t = both (eqb k heartbeatKey) (eqb v 0) (sym (ends c (f .bytes) k v heartbeat y) ∙ ap not n) in
+      let t = both (eqb k heartbeatKey) (eqb v 0) (sym (ends c (f .bytes) k v (unbarred (told h f e)) heartbeat y) ∙ ap not n) in
       beats-no-more (record { requests = r; accepted = e ∙ ap₂ confirmation (eqb-true k heartbeatKey (t .0)) (eqb-true v 0 (t .1)) })
 
   alert-served : (x : Due) → Requests h f → dueTo h f ≡ x → Ends emergency (serve (answer (f .bytes) x))
@@ -67,7 +71,7 @@ module _ (h : Head) (f : Received) where
   alert-served (abort m) r e y n = goes-on y n
   alert-served (upload b t) r e y n = goes-on y n
   alert-served (confirmation k v) r e y n =
-      let t = both (eqb k emergencyKey) (not (on v)) (sym (ends c (f .bytes) k v emergency y) ∙ ap not n) in
+      let t = both (eqb k emergencyKey) (not (on v)) (sym (ends c (f .bytes) k v (unbarred (told h f e)) emergency y) ∙ ap not n) in
       silenced (record { requests = r; accepted = e ∙ ap (λ j. confirmation j v) (eqb-true k emergencyKey (t .0)) }) (not-true _ (t .1))
 
   tpdo-served : (w : PdoNumber) (x : Due) → Requests h f → dueTo h f ≡ x → Ends (tpdo w) (serve (answer (f .bytes) x))
@@ -76,7 +80,7 @@ module _ (h : Head) (f : Received) where
   tpdo-served w (abort m) r e y n = goes-on y n
   tpdo-served w (upload b t) r e y n = goes-on y n
   tpdo-served w (confirmation k v) r e y n =
-      let t = both (eqb k (identifierKey w)) (not (on v)) (sym (ends c (f .bytes) k v (tpdo w) y) ∙ ap not n) in
+      let t = both (eqb k (identifierKey w)) (not (on v)) (sym (ends c (f .bytes) k v (unbarred (told h f e)) (tpdo w) y) ∙ ap not n) in
       switches-off (record { requests = r; accepted = e ∙ ap (λ j. confirmation j v) (eqb-true k (identifierKey w) (t .0)) })
       (not-true _ (t .1))
 
@@ -92,7 +96,7 @@ module _ (h : Head) (f : Received) where
   by-frame (enter stopped) heartbeat x y n = goes-on (beats c y .1) n
   by-frame (enter operational) heartbeat x y n = goes-on (beats c y .1) n
   by-frame (enter preOperational) heartbeat x y n = goes-on (beats c y .1) n
-  by-frame (enter g) (tpdo w) x y n = leaves (x .0) (shows c w y .operates) (x .1)
+  by-frame (enter g) (tpdo w) x y n = leaves (x .0) (keeps c w y .operates) (x .1)
   by-frame (reset r) k x y n = resets x
   by-frame boot k x y n = absurd x
   by-frame idle k x y n = absurd x
@@ -129,7 +133,12 @@ module _ (h : Head) (v : Valid h) where
       test (h .core .announced) (λ a. true-false (rw (s .lives, s .is-on, s .rested, a) at n)) (λ a. lost a)
   by-sample Missing sdoReply y n = goes-on y n
   by-sample Missing heartbeat y n = goes-on y n
-  by-sample Missing (tpdo w) y n = loses
+  by-sample Missing (tpdo w) y n =
+      let p = pdo (communication (h .core)) w in
+      let s = keeps (h .core) w y in
+      test (synchronous p)
+      (λ t. true-false (rw (s .operates, s .is-on, t) at n))
+      (λ t. loses (events p (valid-pdo (h .core) (v .device) w) t))
   by-sample (Raw r) emergency y n =
       let s = alerts (h .core) y in
       test (ltb highestRaw r) (λ t. goes-on y (rw t at n))
@@ -138,8 +147,9 @@ module _ (h : Head) (v : Valid h) where
   by-sample (Raw r) sdoReply y n = goes-on y (sym (by (Same sdoReply) (ltb highestRaw r) (λ _. refl) (λ _. refl)) ∙ n)
   by-sample (Raw r) heartbeat y n = goes-on y (sym (by (Same heartbeat) (ltb highestRaw r) (λ _. refl) (λ _. refl)) ∙ n)
   by-sample (Raw r) (tpdo w) y n =
-      let s = shows (h .core) w y in
-      goes-on y (sym (by (Same (tpdo w)) (ltb highestRaw r) (λ _. refl) (λ _. rw (s .operates, s .is-on, s .is-good))) ∙ n)
+      let s = keeps (h .core) w y in
+      goes-on y (sym (by (Same (tpdo w)) (ltb highestRaw r) (λ _. refl)
+      (λ _. rw (s .operates, s .is-on, s .lasts) (or-true (synchronous (pdo (communication (h .core)) w))))) ∙ n)
 
   -- a slot ends only the emergency's, by sending it
   by-slot : (a : Act) → AtSlot h a → (k : Kind) → mayStay (h .core) k ≡ true → mayStay (acted (h .core) a) k ≡ false

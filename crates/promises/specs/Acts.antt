@@ -18,11 +18,14 @@ use Rattle.sdo.specs.Reply.{carriedOut}
 use Rattle.waiting.specs.Calls.{afterIn}
 use Rattle.parts.specs.declared.Nmt.{Nmt}
 use Rattle.parts.specs.declared.Timers.{Timers}
+use Rattle.parts.specs.declared.Fixed.{Fixed}
 use Rattle.parts.specs.declared.Core.{Core}
 use Rattle.parts.specs.declared.Head.{Head}
 use Rattle.promises.specs.States.{CommandedState, operational, preOperational, code, state, initialising, isIn, Reset}
-use Rattle.promises.specs.States.{restored, communication, good, pdo, clock, uncounted, atRest, missingReading}
-use Rattle.promises.specs.WaitingLine.{Kind, emergency, sdoReply, heartbeat, tpdo, those, mayStay, mayJoin, bootUpFrame, frameOf}
+use Rattle.promises.specs.States.{restored, communication, good, PdoNumber, one, two, pdo, clock, fixedFor, uncounted, atRest}
+use Rattle.promises.specs.States.{missingReading}
+use Rattle.promises.specs.WaitingLine.{Kind, emergency, sdoReply, heartbeat, tpdo, those, mayStay, mayJoin, present, bootUpFrame}
+use Rattle.promises.specs.WaitingLine.{frameOf}
 use Rattle.promises.specs.Timers.{inhibitTicks, completes, synchronous, eventDue, syncDue, timersTicked, timersSynced, timersWritten}
 
 pub data Act : Type 0 where
@@ -45,9 +48,9 @@ pub data Act : Type 0 where
   -- a service request gets its reply, and has its effect
   serve : Served → Act
 
--- the core with these, and the last reply made. The reply's bytes stay after it was sent, and no frame shows them.
+-- the core with these, the last reply made and the positions fixed. Both stay after the frame was sent, and no frame shows them.
 abbrev pub core : Core → Device → Nmt → Bool → Timers → Core
-core c d s a t = record { device = d; nmt = s; announced = a; timers = t; reply = c .reply }
+core c d s a t = record { device = d; nmt = s; announced = a; timers = t; reply = c .reply; fixed = c .fixed }
 
 abbrev pub sensed : Device → Reading → ℕ → Device
 sensed d r e = record { node = d .node; identity = d .identity; reading = r; errors = e; settings = d .settings; saved = d .saved }
@@ -96,6 +99,20 @@ losing c = core c (sensed (c .device) missingReading (errorsAfter (c .device))) 
 abbrev pub timing : Core → Timers → Core
 timing c t = core c (c .device) (c .nmt) (c .announced) t
 
+-- For types 1 to 240 the position is fixed when the frame joins, or anew at the next due SYNC if it still waits: at each SYNC at which the
+-- frame is due and may join. A due SYNC with a missing reading fixes nothing, nor does one that is not due.
+abbrev pub fixesNow : Core → PdoNumber → Bool
+fixesNow c w = syncDue (pdo (communication c) w) (clock (c .timers) w) && mayJoin c (tpdo w)
+
+abbrev pub fixedBySync : Core → PdoNumber → ℕ
+fixedBySync c w = cond (fixesNow c w) (present c) (fixedFor (c .fixed) w)
+
+abbrev pub synchronising : Core → Core
+synchronising c =
+    let t = timersSynced (communication c) (c .timers) in
+    let x : Fixed = record { pdo1 = fixedBySync c one; pdo2 = fixedBySync c two } in
+    record { device = c .device; nmt = c .nmt; announced = c .announced; timers = t; reply = c .reply; fixed = x }
+
 -- what a request's effect does to the timers
 abbrev pub timersAfter : Core → Effect → Timers
 timersAfter c Nothing = c .timers
@@ -110,6 +127,7 @@ serving c s =
       announced = c .announced;
       timers = timersAfter c (s .effect);
       reply = s .bytes;
+      fixed = c .fixed;
     }
 
 abbrev pub acted : Core → Act → Core
@@ -122,7 +140,7 @@ acted c (send k) = sending c k
 acted c (take r) = taking c r
 acted c lose = losing c
 acted c time = timing c (timersTicked (isIn operational c) (communication c) (c .timers))
-acted c sync = timing c (timersSynced (communication c) (c .timers))
+acted c sync = synchronising c
 acted c (serve s) = serving c s
 
 -- The moments at which a kind joins, if it may.

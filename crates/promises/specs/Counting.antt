@@ -17,7 +17,8 @@ use Rattle.promises.specs.Meant.{Commands, Synchronises, Writes}
 use Rattle.promises.specs.Histories.{after, PowerUp, powered}
 use Rattle.promises.specs.Gap.{nodeOf}
 use Rattle.promises.specs.Codes.{codeAfter}
-use Rattle.promises.specs.Moments.{OnEvents, OnSyncs, EachOf, countsAfter}
+use Rattle.promises.specs.Timers.{OnEvents, OnSyncs}
+use Rattle.promises.specs.Moments.{EachOf, countsAfter}
 
 -- sub 1 of 1800h or 1801h
 abbrev pub sub1 : PdoNumber → ℕ

@@ -87,6 +87,7 @@ pub record OnlyReplied (f : Received) (h a : Head) : Type 0 where
   pub nmt : a .core .nmt ≡ h .core .nmt
   pub announced : a .core .announced ≡ h .core .announced
   pub timers : a .core .timers ≡ h .core .timers
+  pub fixed : a .core .fixed ≡ h .core .fixed
   pub reply : a .core .reply ≡ answer (f .bytes) (dueTo h f) .bytes
   pub transfer : a .transfer ≡ answer (f .bytes) (dueTo h f) .transfer
   pub line : waiting (a .line) ≡ waiting (h .line) ++ line.sdoReply ∷ []
@@ -108,6 +109,8 @@ pub record Effects (f : Received) (k v : ℕ) (h a : Head) : Type 0 where
   -- Writing 1015h doesn't alter a running one; nor does any write.
   pub inhibit : a .core .timers .inhibit ≡ h .core .timers .inhibit
   pub counts : (c : Counted) → count (a .core .timers) c ≡ cond (restarts (h .core) k v c) 0 (count (h .core .timers) c)
+  -- Later writes do not change a fixed position.
+  pub still-fixed : a .core .fixed ≡ h .core .fixed
   pub reply : a .core .reply ≡ answer (f .bytes) (confirmation k v) .bytes
   -- a write ends the transfer
   pub transfer : a .transfer ≡ noTransfer

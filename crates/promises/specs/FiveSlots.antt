@@ -12,13 +12,14 @@ use Rattle.waiting.specs.Places.{waiting}
 use Rattle.waiting.specs.Laws.{Among}
 use Rattle.parts.specs.declared.Head.{Head}
 use Rattle.promises.specs.States.{operational, isIn, isInitialising, isLive, node, communication, good, one, two, pdo}
+use Rattle.promises.specs.Timers.{OnEvents}
 use Rattle.promises.specs.WaitingLine.{Kind, emergency, sdoReply, heartbeat, tpdo, number, bootUpFrame, frameOf}
 use Rattle.promises.specs.Calls.{Call, slot, step, noFrame, slotAnswer, isFrame, frameIn}
 use Rattle.promises.specs.Valid.{waits}
 use Rattle.promises.specs.Histories.{after, slots, Reachable}
 use Rattle.promises.specs.Withdrawals.{Withdrawal}
 
--- A slot sends the first: the call is a slot, k is the first that waits, and the slot answers k's frame, made at the slot.
+-- A slot sends the first: the call is a slot, k is the first that waits, and the slot answers k's frame.
 pub record Sends (h : Head) (c : Call) (k : Kind) : Type 0 where
   pub is-slot : c ≡ slot
   pub is-first : first (waiting (h .line)) ≡ number k
@@ -78,9 +79,11 @@ May h emergency =
 May h sdoReply = isLive (h .core) ≡ true
 -- Heartbeat: .. if H > 0; in Initialising only the boot-up frame waits
 May h heartbeat = (isInitialising (h .core) ≡ false) × (0 < communication (h .core) .heartbeat)
--- TPDO: only when Operational, switched on (bit 31 of sub 1 is 0) and the reading is good
+-- TPDO: only when Operational, switched on (bit 31 of sub 1 is 0) and, for types 254 and 255, the reading is good
 May h (tpdo w) =
-    let c = h .core in (isIn operational c ≡ true) × (on (pdo (communication c) w .identifier) ≡ true) × (good c ≡ true)
+    let c = h .core in
+    let p = pdo (communication c) w in
+    (isIn operational c ≡ true) × (on (p .identifier) ≡ true) × (OnEvents p → good c ≡ true)
 
 pub record FiveSlots : Type 0 where
   -- A kind waits exactly if it stands in the line.

@@ -1,7 +1,7 @@
--- "A gap has to arrive as a gap": the head reports a missing reading, and sends no position frame
--- meanwhile. Demand 3, second and third sentence, and the emergency of 01's chapter "The waiting
--- line", over every list of calls. Frames are recognised by identifier, length and bytes.
-use Prim.Native.Nat.{ℕ, _+_, _-_, _*_, _<_, _≤_}
+-- "A gap has to arrive as a gap": the head reports a missing reading, and no position frame joins meanwhile. Demand 3, second
+-- sentence, and the emergency of 01's chapter "The waiting line", over every list of calls. Frames are recognised by
+-- identifier, length and bytes. The third sentence is in specs/SyncFrames.antt.
+use Prim.Native.Nat.{ℕ, suc, _+_, _-_, _*_, _<_, _≤_}
 use lib.Dec.{eqb, leb}
 use lib.ListN.{getD}
 use mathlib.Core.Path.{_≡_}
@@ -14,7 +14,7 @@ use Rattle.entries.specs.declared.Identity.{Identity}
 use Rattle.dictionary.specs.Accepted.{on}
 use Rattle.parts.specs.declared.Head.{Head}
 use Rattle.parts.specs.declared.Sensor.the-variants.{Missing, Raw}
-use Rattle.promises.specs.States.{preOperational, operational, isIn, isInitialising, isLive, node, communication, good}
+use Rattle.promises.specs.States.{preOperational, operational, isIn, isInitialising, isLive, node, communication, good, one, two}
 use Rattle.promises.specs.WaitingLine.{Kind, emergency, sdoReply, heartbeat, tpdo, bootUpFrame, frameOf}
 use Rattle.promises.specs.Timers.{inhibitTicks}
 use Rattle.promises.specs.Calls.{Call, receive, tick, sample, slot, step}
@@ -37,6 +37,11 @@ nodeOf p = cond (isTaken p) (p .number) 1
 abbrev pub among : {A : Type 0} → (A → Bool) → List A → Bool
 among t [] = false
 among t (x ∷ xs) = t x || among t xs
+
+-- how many of a list pass a test
+abbrev pub howMany : {A : Type 0} → (A → Bool) → List A → ℕ
+howMany t [] = 0
+howMany t (x ∷ xs) = cond (t x) (suc (howMany t xs)) (howMany t xs)
 
 -- the boot-up frame (700h+N, one byte 00h)
 abbrev pub isBootUp : ℕ → Frame → Bool
@@ -83,6 +88,10 @@ showsPosition (tpdo w) = true
 -- a position frame, by its identifier: 181h..57Fh
 abbrev pub isPosition : Frame → Bool
 isPosition f = within 0x181 0x57F (f .identifier)
+
+-- how many position frames wait
+abbrev pub waitingPositions : Head → ℕ
+waitingPositions h = cond (waits h (tpdo one)) 1 0 + cond (waits h (tpdo two)) 1 0
 
 -- what the tests say about a frame
 pub record Known (n : ℕ) (f : Frame) (boots alerts shows : Bool) : Type 0 where
@@ -169,9 +178,13 @@ pub record Gap : Type 0 where
   pub known : (p : PowerUp) (cs : List Call) (k : Kind) → let h = after (powered p) cs in waits h k ≡ true
       → Known (nodeOf p) (frameOf (h .core) k) false (alerts k) (showsPosition k)
   pub known-boot-up : (p : PowerUp) (cs : List Call) → Known (nodeOf p) (bootUpFrame (after (powered p) cs .core)) true false false
-  -- From the missing sample to the next good one no position frame leaves at all.
-  pub no-position : (p : PowerUp) (before cs : List Call) → among isGoodSample cs ≡ false
-      → among isPosition (sent (after (powered p) before) (sample Missing ∷ cs)) ≡ false
+  -- From the missing sample to the next good one none joins: only those position frames leave that still wait after the sample, each once.
+  -- These are of types 1 to 240: `withdrawn` of specs/FiveSlots.antt.
+  pub no-more-positions : (p : PowerUp) (before cs : List Call) → let h = step (after (powered p) before) (sample Missing) in
+      among isGoodSample cs ≡ false → howMany isPosition (sent h cs) ≤ waitingPositions h
+  -- From the frame that says "missing" to the next good sample no position frame leaves at all.
+  pub silent-once-told : (p : PowerUp) (before cs : List Call) → let h = after (powered p) before in
+      frames h slot ≡ saysMissing (nodeOf p) ∷ [] → among isGoodSample cs ≡ false → among isPosition (sent (step h slot) cs) ≡ false
   -- Nor from power-up to the first good sample: it starts with the reading missing.
   pub no-position-at-first : (p : PowerUp) (cs : List Call) → among isGoodSample cs ≡ false → among isPosition (sent (powered p) cs) ≡ false
   -- If a reading goes missing in Pre-operational or Operational and stays missing, with no inhibit time running at

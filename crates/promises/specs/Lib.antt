@@ -1,6 +1,6 @@
 pub mod States
-pub mod WaitingLine
 pub mod Timers
+pub mod WaitingLine
 pub mod Acts
 pub mod Calls
 pub mod Valid
@@ -31,5 +31,6 @@ pub mod Words
 pub mod Transfers
 pub mod NamesRead
 pub mod Counting
+pub mod SyncFrames
 pub mod Demand2
 pub mod Demand3

@@ -1,9 +1,9 @@
 -- When a kind starts to wait: 01's moments, for every list of calls from power-up. Ticks and SYNCs are counted from
 -- the calls, starting at the call that 01 names; the head's own timers are not read. 01, chapter "The waiting line".
-use Prim.Native.Nat.{ℕ, suc, _%_, _<_, _≤_}
+use Prim.Native.Nat.{ℕ, suc, _%_, _<_}
 use lib.Dec.{eqb, leb}
 use mathlib.Core.Path.{_≡_}
-use mathlib.Core.Logic.{_⊎_, _↔_}
+use mathlib.Core.Logic.{_↔_}
 use mathlib.Core.Bool.{Bool, true, false, not, _&&_, _||_, Bool·beq, cond}
 use mathlib.Core.List.{List, [], _∷_}
 use Rattle.can.specs.declared.Received.{Received}
@@ -13,6 +13,7 @@ use Rattle.sdo.specs.Request.{aborting}
 use Rattle.parts.specs.declared.Head.{Head}
 use Rattle.promises.specs.States.{operational, stopped, preOperational, isIn, isInitialising, isLive, node, communication}
 use Rattle.promises.specs.States.{good, PdoNumber, one, two, pdo, Command, noCommand, toEnter, toReset, commandOf}
+use Rattle.promises.specs.Timers.{OnEvents, OnSyncs}
 use Rattle.promises.specs.WaitingLine.{Kind, emergency, sdoReply, heartbeat, tpdo}
 use Rattle.promises.specs.Calls.{Call, receive, tick, sample, slot, isSlot, isHeard, step}
 use Rattle.promises.specs.Valid.{waits}
@@ -136,13 +137,6 @@ pub record Alerting (h : Head) : Type 0 where
 pub record Ready (h : Head) (w : PdoNumber) : Type 0 where
   pub is-on : on (pdoOf h w .identifier) ≡ true
   pub is-good : good (h .core) ≡ true
-
--- Types 254 and 255; types 1..240
-abbrev pub OnEvents : Pdo → Type 0
-OnEvents p = (p .transmission ≡ 254) ⊎ (p .transmission ≡ 255)
-
-abbrev pub OnSyncs : Pdo → Type 0
-OnSyncs p = (1 ≤ p .transmission) × (p .transmission ≤ 240)
 
 -- The calls at which a kind joins; n are the counts before the call.
 pub data Begins (h : Head) (n : Counts) : Call → Kind → Type 0 where

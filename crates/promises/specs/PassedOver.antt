@@ -10,13 +10,14 @@ use Rattle.dictionary.specs.Accepted.{on}
 use Rattle.parts.specs.declared.Head.{Head}
 use Rattle.parts.specs.declared.Sensor.the-variants.{Missing, Raw}
 use Rattle.promises.specs.States.{operational, isIn, PdoNumber, toEnter}
-use Rattle.promises.specs.WaitingLine.{tpdo}
+use Rattle.promises.specs.WaitingLine.{tpdo, frameOf}
 use Rattle.promises.specs.Calls.{Call, receive, tick, step}
 use Rattle.promises.specs.Valid.{waits}
 use Rattle.promises.specs.Meant.{Commands, Synchronises}
 use Rattle.promises.specs.Histories.{after, PowerUp, powered}
 use Rattle.promises.specs.Readings.{lastSample}
-use Rattle.promises.specs.Moments.{since, pdoOf, OnEvents, OnSyncs, EachOf, Counts, countsAfter}
+use Rattle.promises.specs.Timers.{OnEvents, OnSyncs}
+use Rattle.promises.specs.Moments.{since, pdoOf, EachOf, Counts, countsAfter}
 use Rattle.promises.specs.Moments.{ticksAnew, tickCounts, syncsAnew, synchronises}
 
 -- A PDO's due moments, for any reading; n was counted before the call.
@@ -32,9 +33,12 @@ pub data Due (h : Head) (n : Counts) : Call → PdoNumber → Type 0 where
       → Due h n (receive f) w
 
 pub record PassedOver (p : PowerUp) (cs : List Call) : Type 0 where
-  -- With a missing reading it is passed over: the PDO does not wait after the call.
+  -- With a missing reading it is passed over: no frame joins, and none is withdrawn,
   pub passes : let h = after (powered p) cs in (c : Call) (w : PdoNumber) → Due h (countsAfter p cs) c w → lastSample Missing cs ≡ Missing
-      → waits (step h c) (tpdo w) ≡ false
+      → waits (step h c) (tpdo w) ≡ waits h (tpdo w)
+  -- and a frame that waits carries what it carried. (Of types 254 and 255 none waits then: `only-while` of specs/FiveSlots.antt.)
+  pub same-frame : let h = after (powered p) cs in (c : Call) (w : PdoNumber) → Due h (countsAfter p cs) c w
+      → lastSample Missing cs ≡ Missing → waits h (tpdo w) ≡ true → frameOf (step h c .core) (tpdo w) ≡ frameOf (h .core) (tpdo w)
   -- With a good one, and switched on, the PDO joins.
   pub joins : let h = after (powered p) cs in (c : Call) (w : PdoNumber) (r : ℕ) → Due h (countsAfter p cs) c w
       → lastSample Missing cs ≡ Raw r → on (pdoOf h w .identifier) ≡ true → waits (step h c) (tpdo w) ≡ true

@@ -23,10 +23,14 @@ use Rattle.dictionary.specs.Writes.{rescales}
 use Rattle.sdo.specs.Request.{indexOf, subOf, reading}
 use Rattle.sdo.specs.Service.{Due, value, abort}
 use Rattle.cases.specs.Padded.{pad}
+use Rattle.waiting.specs.Line.{first}
+use Rattle.waiting.specs.Places.{waiting}
 use Rattle.parts.specs.declared.Head.{Head}
 use Rattle.parts.specs.declared.Sensor.{Sensor}
 use Rattle.parts.specs.declared.Sensor.the-variants.{Missing, Raw}
 use Rattle.promises.specs.States.{operational, isIn, communication, good, missingReading, PdoNumber, pdo, ofNode, toReset}
+use Rattle.promises.specs.Timers.{OnEvents}
+use Rattle.promises.specs.WaitingLine.{tpdo, number}
 use Rattle.promises.specs.Calls.{Call, receive, tick, sample, slot, badSample, step, slotAnswer, isFrame, frameIn}
 use Rattle.promises.specs.Meant.{Commands, dueTo, Writes}
 use Rattle.promises.specs.Histories.{after}
@@ -96,13 +100,15 @@ abbrev pub Unmoved : Head → List Call → Type 0
 Unmoved h [] = Unit {0}
 Unmoved h (c ∷ cs) = (Moves h c → ⊥) × Unmoved (step h c) cs
 
--- TPDO: 4 bytes, the position, low byte first: exactly the one that 6004h reads.
+-- TPDO: 4 bytes, the position, low byte first.
 pub record Carries (h : Head) (f : Frame) : Type 0 where
   pub which : PdoNumber
+  pub is-first : first (waiting (h .line)) ≡ number (tpdo which)
   pub identifier : f .identifier ≡ pdo (communication (h .core)) which .identifier
   pub length : f .length ≡ 4
   pub position : ℕ
-  pub reads-it : readsIn h 0x6004 0 ≡ some (Number position)
+  -- Types 254 and 255: the position at the slot, exactly the one that 6004h reads. (Types 1 to 240: specs/SyncFrames.antt.)
+  pub reads-it : OnEvents (pdo (communication (h .core)) which) → readsIn h 0x6004 0 ≡ some (Number position)
   pub its-bytes : f .bytes ≡ pad 8 (lowFirst 4 position)
   pub whole : bytes.number (lowFirst 4 position) ≡ position
 
@@ -116,6 +122,6 @@ pub record Positioned (h : Head) : Type 0 where
   pub presets : (f : Received) (v : ℕ) → Writes h f 0x6003_00 v → readsIn (step h (receive f)) 0x6004 0 ≡ some (Number v)
   -- and goes on reading it until a call alters it
   pub stays : (cs : List Call) → Unmoved h cs → readsIn (after h cs) 0x6004 0 ≡ readsIn h 0x6004 0
-  -- The frame carries the position at the slot: every frame with an identifier in 181h..57Fh does.
+  -- Every frame with an identifier in 181h..57Fh carries a position.
   pub carries : isFrame (slotAnswer h) ≡ true → within 0x181 0x57F (frameIn (slotAnswer h) .identifier) ≡ true
       → Carries h (frameIn (slotAnswer h))

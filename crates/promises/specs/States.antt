@@ -18,6 +18,7 @@ use Rattle.waiting.specs.Line.{places}
 use Rattle.parts.specs.declared.Nmt.{Nmt}
 use Rattle.parts.specs.declared.Clock.{Clock}
 use Rattle.parts.specs.declared.Timers.{Timers}
+use Rattle.parts.specs.declared.Fixed.{Fixed}
 use Rattle.parts.specs.declared.Core.{Core}
 use Rattle.parts.specs.declared.Head.{Head}
 
@@ -85,6 +86,15 @@ uncounted = record { ticks = 0; syncs = 0 }
 abbrev pub atRest : Timers
 atRest = record { inhibit = 0; heartbeat = 0; pdo1 = uncounted; pdo2 = uncounted }
 
+-- the position fixed for a PDO
+abbrev pub fixedFor : Fixed → PdoNumber → ℕ
+fixedFor x one = x .pdo1
+fixedFor x two = x .pdo2
+
+-- before the first SYNC: no frame carries these
+abbrev pub unfixed : Fixed
+unfixed = record { pdo1 = 0; pdo2 = 0 }
+
 abbrev pub missingReading : Reading
 missingReading = record { good = false; raw = 0 }
 
@@ -106,6 +116,7 @@ startedCore n i =
       announced = true;
       timers = atRest;
       reply = pad 8 [];
+      fixed = unfixed;
     }
 
 -- No name is being read. Only the boot-up frame waits: the state Initialising means that it does, and no kind stands in the line.

@@ -1,6 +1,8 @@
 -- The inhibit time, the heartbeat's ticks, and the ticks and SYNCs of a PDO: 01, chapter "The waiting line".
-use Prim.Native.Nat.{ℕ, suc, _+_, _-_, _/_}
+use Prim.Native.Nat.{ℕ, suc, _+_, _-_, _/_, _≤_}
 use lib.Dec.{eqb, ltb}
+use mathlib.Core.Path.{_≡_}
+use mathlib.Core.Logic.{_⊎_}
 use mathlib.Core.Bool.{Bool, not, _&&_, _||_, cond}
 use Rattle.cases.specs.Tests.{within}
 use Rattle.entries.specs.declared.Pdo.{Pdo}
@@ -25,6 +27,12 @@ completes n count = eqb (suc count) n
 -- Types 1..240; the others are 254 and 255
 abbrev pub synchronous : Pdo → Bool
 synchronous p = within 1 240 (p .transmission)
+
+abbrev pub OnSyncs : Pdo → Type 0
+OnSyncs p = (1 ≤ p .transmission) × (p .transmission ≤ 240)
+
+abbrev pub OnEvents : Pdo → Type 0
+OnEvents p = (p .transmission ≡ 254) ⊎ (p .transmission ≡ 255)
 
 -- Types 254 and 255: every E ticks (sub 5 = E > 0)
 abbrev pub eventDue : Pdo → Clock → Bool

@@ -15,7 +15,7 @@ use Rattle.parts.specs.declared.Timers.{Timers}
 use Rattle.parts.specs.declared.Core.{Core}
 use Rattle.parts.specs.declared.Head.{Head}
 use Rattle.promises.specs.States.{operational, stopped, preOperational, isIn, isInitialising}
-use Rattle.promises.specs.States.{communication, PdoNumber, pdo, clock, atRest}
+use Rattle.promises.specs.States.{communication, PdoNumber, pdo, clock, fixedFor, atRest}
 use Rattle.promises.specs.Timers.{inhibitTicks}
 use Rattle.promises.specs.WaitingLine.{Kind, emergency, number, isAlerting, mayStay}
 
@@ -50,6 +50,8 @@ pub record Valid (h : Head) : Type 0 where
   pub fresh : isInitialising (h .core) ≡ true → (h .core .announced ≡ true) × (h .core .timers ≡ atRest)
   -- each at most once, and empty places behind them
   pub line : Holds places (h .line) (waiting (h .line))
+  -- what is fixed at a SYNC is a position, below the greatest range
+  pub fixed : (w : PdoNumber) → fixedFor (h .core .fixed) w < 1048576
   -- a kind waits only if it may stay
   pub only : (k : Kind) → waits h k ≡ true → mayStay (h .core) k ≡ true
   -- the emergency waits exactly while its condition holds

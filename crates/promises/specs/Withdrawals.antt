@@ -1,5 +1,5 @@
 -- Which calls take a kind from the line unsent: 01's list "Withdrawals, and
--- no others", one clause for each of its lines. Chapter "The waiting line".
+-- no others", one clause for each of its lines, with what 2/13 changes. Chapter "The waiting line".
 use Prim.Native.Nat.{ℕ, _≤_}
 use mathlib.Core.Path.{_≡_}
 use mathlib.Core.Bool.{true, false}
@@ -8,6 +8,8 @@ use Rattle.dictionary.specs.Accepted.{on}
 use Rattle.parts.specs.declared.Head.{Head}
 use Rattle.parts.specs.declared.Sensor.the-variants.{Missing, Raw}
 use Rattle.promises.specs.States.{CommandedState, operational, stopped, isIn, Reset, toEnter, toReset, PdoNumber, one, two}
+use Rattle.promises.specs.States.{communication, pdo}
+use Rattle.promises.specs.Timers.{OnEvents}
 use Rattle.promises.specs.WaitingLine.{Kind, emergency, heartbeat, tpdo}
 use Rattle.promises.specs.Calls.{Call, receive, sample}
 use Rattle.promises.specs.Meant.{Commands, Writes}
@@ -25,8 +27,8 @@ pub data Withdrawal (h : Head) : Call → Kind → Type 0 where
   -- leaving Operational takes both PDOs; (a command naming the present state leaves no state)
   leaves : {f : Received} {g : CommandedState} {w : PdoNumber} → Commands h f (toEnter g) → isIn operational (h .core) ≡ true
       → isIn g (h .core) ≡ false → Withdrawal h (receive f) (tpdo w)
-  -- a missing sample takes both PDOs;
-  loses : {w : PdoNumber} → Withdrawal h (sample Missing) (tpdo w)
+  -- a missing sample takes both PDOs, but not a frame of types 1 to 240: A missing sample no longer takes such a frame back.
+  loses : {w : PdoNumber} → OnEvents (pdo (communication (h .core)) w) → Withdrawal h (sample Missing) (tpdo w)
   -- switching a PDO off takes that PDO;
   switches-off : {f : Received} {v : ℕ} {w : PdoNumber} → Writes h f (identifierKey w) v → on v ≡ false → Withdrawal h (receive f) (tpdo w)
   -- writing 0 to 1017h takes the heartbeat;

@@ -1,7 +1,7 @@
 -- Proves `Busy` of specs/Busy.antt: the conditions by computation, and what is then sent by the theorems.
 use native.Mathlib.Omega.{arith}
 use mathlib.Core.Path.{refl}
-use mathlib.Core.List.{_++_}
+use mathlib.Core.List.{_∷_, _++_}
 use Rattle.entries.specs.Table.{entries, table, lookup}
 use Rattle.dictionary.specs.Reads.{shownAt}
 use Rattle.dictionary.specs.Writes.{written}
@@ -14,7 +14,7 @@ use Rattle.promises.specs.Histories.{after}
 use Rattle.promises.specs.Node1.{node1}
 use Rattle.promises.specs.Gap.{Unrelieved}
 use Rattle.promises.proofs.Gap.{gap}
-use Rattle.runs.specs.Busy.{busyLine, busyMaster, held, wait, Busy}
+use Rattle.runs.specs.Busy.{busyLine, untilTold, onward, busyMaster, held, wait, Busy}
 use Rattle.runs.proofs.Node1.{power-up}
 
 unrelieved : Unrelieved 1 (step (after node1 busyLine) (sample Missing)) busyMaster
@@ -37,8 +37,11 @@ busy-line =
       five = refl;
       good = refl;
       told = gap .missing-is-told power-up busyLine busyMaster refl refl unrelieved (omega arith);
-      hidden = gap .no-position power-up busyLine busyMaster refl;
-      shown = refl;
+      one-waits = refl;
+      one-leaves = refl;
+      both-leave = refl;
+      says-missing = refl;
+      silent = gap .silent-once-told power-up (busyLine ++ sample Missing ∷ untilTold) onward refl refl;
       anew = refl;
       inhibited = refl;
       good-still = refl;

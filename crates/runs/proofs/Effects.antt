@@ -32,6 +32,7 @@ use Rattle.promises.specs.Histories.{after}
 use Rattle.dictionary.specs.Worked.{identity1}
 use Rattle.promises.specs.Node1.{node1, toNode1, writes}
 use Rattle.runs.specs.Effects.{ready, writing, Met, MetWhenReady}
+use Rattle.promises.specs.States.{unfixed}
 use Rattle.runs.proofs.Node1.{reached}
 
 -- Node 1, Pre-operational, with that reading, that announced, these settings and that last reply; nothing waits.
@@ -44,6 +45,7 @@ standing r told s reply =
         announced = told;
         timers = atRest;
         reply = reply;
+        fixed = unfixed;
       };
       transfer = noTransfer;
       line = pad places [];

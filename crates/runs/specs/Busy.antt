@@ -11,9 +11,9 @@ use Rattle.parts.specs.declared.Sensor.the-variants.{Missing, Raw}
 use Rattle.promises.specs.States.{isLive}
 use Rattle.promises.specs.WaitingLine.{frame}
 use Rattle.promises.specs.Calls.{Call, tick, sample, slot, step}
-use Rattle.promises.specs.Histories.{after, slots, sent}
+use Rattle.promises.specs.Histories.{after, slots, frames, sent}
 use Rattle.promises.specs.Node1.{node1, request, asks, writes, command, sync}
-use Rattle.promises.specs.Gap.{among, lastEmergency, saysMissing, saysGood, isPosition, Unrelieved}
+use Rattle.promises.specs.Gap.{among, howMany, lastEmergency, saysMissing, saysGood, isPosition, waitingPositions, Unrelieved}
 use Rattle.promises.specs.Emergency.{Alerts}
 
 -- Boot-up, missing told, a good sample told, 1017h = 1, Operational: TPDO1, the heartbeat, a reply and TPDO2 wait.
@@ -22,10 +22,15 @@ busyLine =
     slot ∷ slot ∷ sample (Raw 69637) ∷ slot ∷ writes (bytes 0x2B 0x17 0x10 0x00 0x01 0x00 0 0) ++ command 0x01 ∷ tick ∷ asks ∷ sync ∷ []
 
 -- The master floods the head: a tick, a request and a SYNC before each slot, a sample that is refused, the present state commanded.
+abbrev pub untilTold : List Call
+untilTold =
+    asks ∷ slot ∷ tick ∷ asks ∷ sync ∷ slot ∷ tick ∷ asks ∷ sync ∷ sample (Raw 1048576) ∷ slot ∷ tick ∷ asks ∷ sync ∷ command 0x01 ∷ []
+
+abbrev pub onward : List Call
+onward = sample Missing ∷ tick ∷ asks ∷ sync ∷ slot ∷ []
+
 abbrev pub busyMaster : List Call
-busyMaster =
-    asks ∷ slot ∷ tick ∷ asks ∷ sync ∷ slot ∷ tick ∷ asks ∷ sync ∷ sample (Raw 1048576) ∷ slot
-    ∷ tick ∷ asks ∷ sync ∷ command 0x01 ∷ slot ∷ sample Missing ∷ tick ∷ asks ∷ sync ∷ slot ∷ []
+busyMaster = untilTold ++ slot ∷ onward
 
 -- 1015h = 95, so 11 ticks from the emergency frame that says good; then the reading goes missing.
 abbrev pub held : List Call
@@ -43,7 +48,7 @@ slow =
 pub record Busy : Type 0 where
   -- what waits when the reading goes missing, and what waits after that
   pub before : after node1 busyLine .line ≡ tpdo1 ∷ heartbeat ∷ sdoReply ∷ tpdo2 ∷ 0 ∷ []
-  pub then : step (after node1 busyLine) (sample Missing) .line ≡ heartbeat ∷ sdoReply ∷ emergency ∷ 0 ∷ 0 ∷ []
+  pub then : step (after node1 busyLine) (sample Missing) .line ≡ heartbeat ∷ sdoReply ∷ tpdo2 ∷ emergency ∷ 0 ∷ []
   pub live : isLive (after node1 busyLine .core) ≡ true
   pub uninhibited : after node1 busyLine .core .timers .inhibit ≡ 0
   pub unrelieved : Unrelieved 1 (step (after node1 busyLine) (sample Missing)) busyMaster
@@ -51,9 +56,13 @@ pub record Busy : Type 0 where
   -- good was said last; from the fifth slot on it is missing
   pub good : lastEmergency 1 (sent node1 busyLine) ≡ some (saysGood 1)
   pub told : lastEmergency 1 (sent node1 (busyLine ++ sample Missing ∷ busyMaster)) ≡ some (saysMissing 1)
-  -- no position frame leaves; without the missing sample one would
-  pub hidden : among isPosition (sent (after node1 busyLine) (sample Missing ∷ busyMaster)) ≡ false
-  pub shown : among isPosition (sent (after node1 busyLine) busyMaster) ≡ true
+  -- The frame of TPDO2, of type 1, waited at the missing sample and leaves, that of TPDO1 does not. Without the missing sample both leave.
+  pub one-waits : waitingPositions (step (after node1 busyLine) (sample Missing)) ≡ 1
+  pub one-leaves : howMany isPosition (sent (step (after node1 busyLine) (sample Missing)) busyMaster) ≡ 1
+  pub both-leave : howMany isPosition (sent (after node1 busyLine) busyMaster) ≡ 2
+  -- the fourth slot says "missing", and then none is left
+  pub says-missing : frames (after node1 (busyLine ++ sample Missing ∷ untilTold)) slot ≡ saysMissing 1 ∷ []
+  pub silent : among isPosition (sent (step (after node1 (busyLine ++ sample Missing ∷ untilTold)) slot) onward) ≡ false
   -- a reset and its boot-up start again
   pub anew : lastEmergency 1 (sent node1 (busyLine ++ command 0x81 ∷ slot ∷ [])) ≡ none
   -- While the inhibit time runs the gap is not told; from its end it is.

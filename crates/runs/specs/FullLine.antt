@@ -68,7 +68,8 @@ pub record FullLine : Type 0 where
   pub resets : Takes full (command 0x81) [] × Takes full (command 0x82) []
   pub stops : Takes full (command 0x02) (heartbeat ∷ [])
   pub leaves-operational : Takes full (command 0x80) (emergency ∷ sdoReply ∷ heartbeat ∷ [])
-  pub loses : Takes full (sample Missing) (sdoReply ∷ heartbeat ∷ [])
+  -- (TPDO2, of type 1, stays)
+  pub loses : Takes full (sample Missing) (tpdo2 ∷ sdoReply ∷ heartbeat ∷ [])
   pub finds : Waits (after node1 (slot ∷ [])) (emergency ∷ []) × Takes (after node1 (slot ∷ [])) (sample (Raw 69637)) []
   -- 1800-1 = 8000 0181h, 1801-1 = 8000 0281h, 1017h = 0, 1014h = 8000 0081h, each with its reply
   pub unasked-line : Waits unasked (emergency ∷ tpdo1 ∷ tpdo2 ∷ heartbeat ∷ [])

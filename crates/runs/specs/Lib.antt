@@ -9,3 +9,4 @@ pub mod Joining
 pub mod FullLine
 pub mod Busy
 pub mod Names
+pub mod SyncFrames

@@ -11,11 +11,12 @@ ghost use Rattle.runs.specs.Readings.{Positioning};
 ghost use Rattle.runs.specs.Resets.{MetByLoad, MetBySave, Restoring};
 ghost use Rattle.runs.specs.Service.{Serving};
 ghost use Rattle.runs.specs.Starts.{StartsMet};
+ghost use Rattle.runs.specs.SyncFrames.{FixedAtSync};
 
 // This function does nothing. It ensures the statements of the crate, so the crate is proved only if they are.
 fn statements()
     ensures { λ _. ⌜
         FullLine × Busy × Joining × CodesMet × Serving × MetWhenReady × Positioning × Losing × MetBySave × MetByLoad
-        × Restoring × StartsMet × Naming
+        × Restoring × StartsMet × Naming × FixedAtSync
         ⌝ }
 {}

@@ -3,7 +3,7 @@ use Prim.Native.Nat.{ℕ}
 use native.Mathlib.Omega.{arith}
 use lib.Dec.{eqb}
 use mathlib.Core.Path.{_≡_, refl, sym, ap, ap₂, subst, _∙_}
-use mathlib.Core.Bool.{Bool, true, false, not, _&&_, Bool·beq, and-true, and-false, and-not-self}
+use mathlib.Core.Bool.{Bool, true, false, not, _&&_, Bool·beq, and-true, and-false, and-not-self, or-true, or-false}
 use mathlib.Core.List.{List, []}
 use borrow.Author.Tests.{eqb-true}
 use Rattle.cases.proofs.Cases.{by}
@@ -19,14 +19,17 @@ use Rattle.parts.specs.Put.{withLine, withReading, withErrors}
 use Rattle.parts.specs.declared.Core.{Core}
 use Rattle.parts.specs.declared.Head.{Head}
 use Rattle.parts.specs.declared.Sensor.the-variants.{Missing, Raw}
-use Rattle.promises.specs.States.{isLive, communication, good, missingReading, PdoNumber, one, two, pdo}
-use Rattle.promises.specs.WaitingLine.{Kind, emergency, sdoReply, heartbeat, tpdo, those, isAlerting, mayStay, mayShow}
+use Rattle.promises.specs.States.{isLive, communication, good, missingReading, pdo}
+use Rattle.promises.specs.Timers.{synchronous}
+use Rattle.promises.specs.WaitingLine.{Kind, emergency, sdoReply, heartbeat, tpdo, those, isAlerting, mayStay}
 use Rattle.promises.specs.Acts.{take, lose, taking, losing, errorsAfter, emergencyOnly, goes, comes, settledTo, act}
 use Rattle.promises.specs.Calls.{sample, badSample, sampledAs, answered, refusalBy}
 use Rattle.promises.specs.Valid.{Valid}
 use Rattle.promises.specs.Promised.{Samples}
 use Rattle.promises.proofs.KindNumbers.{kindAt}
 use Rattle.promises.proofs.Nothing.{act-step, step-nothing}
+use Rattle.promises.proofs.Settled.{withdrawn}
+use Rattle.promises.proofs.Conditions.{alerts, keeps}
 use Rattle.promises.proofs.Valid.{valid-step}
 use Rattle.samples.specs.declared.Sampled.{Sampled}
 use Rattle.samples.specs.declared.Missed.{Missed}
@@ -41,6 +44,10 @@ alert-comes : (o a : Bool) → (o && not (Bool·beq false a)) ≡ ((o && true) &
 alert-comes true true = refl
 alert-comes true false = refl
 alert-comes false a = refl
+
+turned : (a : Bool) → a ≡ not (not (Bool·beq true a))
+turned true = refl
+turned false = refl
 
 module _ (h : Head) (v : Valid h) where
   abbrev c : Core
@@ -68,15 +75,29 @@ module _ (h : Head) (v : Valid h) where
     abbrev Found : List ℕ → Type 0
     Found l = l ≡ joinsIn (withdrawsIn (h .line) (goes c (taking c raw))) (comes emergencyOnly (taking c raw))
 
+    -- only the emergency goes when a missing reading is found
+    abbrev goes-found : Kind → Bool
+    goes-found emergency = canAlert && c .announced
+    goes-found sdoReply = false
+    goes-found heartbeat = false
+    goes-found (tpdo w) = false
+
+    found-right : good c ≡ false → (k : Kind) → mayStay c k ≡ true → goes-found k ≡ not (mayStay (taking c raw) k)
+    found-right g emergency m = let s = alerts c m in rw (s .lives, s .is-on, s .rested) (turned (c .announced))
+    found-right g sdoReply m = sym (ap not m)
+    found-right g heartbeat m = sym (ap not m)
+    found-right g (tpdo w) m = let s = keeps c w m in rw (s .operates, s .is-on, or-true (synchronous (pdo (communication c) w)))
+
     -- good after good, announced as good, announced as missing
     line-found : Found found
     line-found =
         by Found (good c)
         (λ g. unmoved (taking c raw) (rw g (simp and-not-self)) (rw g))
         (λ g.
-        by Found (c .announced)
-        (λ a. rw (g, a) (simp (and-true, and-false, and-not-self)))
-        (λ a. rw (g, a) (simp (and-true, and-false, and-not-self))))
+        rw (← withdrawn h v goes-found (taking c raw) (found-right g))
+        (by (λ l. l ≡ joinsIn (withdrawsIn (h .line) (those goes-found)) (comes emergencyOnly (taking c raw))) (c .announced)
+        (λ a. rw a (simp (and-true, and-false)))
+        (λ a. rw a (simp (and-true, and-false)))))
 
     taken : withLine (withReading h (record { good = true; raw = raw })) found ≡ act false h (take raw)
     unfolding act settledTo
@@ -103,18 +124,21 @@ module _ (h : Head) (v : Valid h) where
   gone emergency = canAlert && not (c .announced)
   gone sdoReply = false
   gone heartbeat = false
-  gone (tpdo w) = mayShow (c .nmt) (pdo (communication c) w .identifier) true
+  gone (tpdo w) = not (synchronous (pdo (communication c) w))
 
   module _ (g : good c ≡ true) where
     alert : (mayStay c emergency && not (mayStay (losing c) emergency)) ≡ (canAlert && not (c .announced))
     alert = rw g (alert-goes (isLive c && on (communication c .emergency) && eqb inhibit 0) (c .announced))
 
-    show : (w : PdoNumber)
-        → (mayStay c (tpdo w) && not (mayStay (losing c) (tpdo w))) ≡ mayShow (c .nmt) (pdo (communication c) w .identifier) true
-    show w = rw g (simp (and-false, and-true))
+    -- of those that may wait
+    lost-right : (k : Kind) → mayStay c k ≡ true → gone k ≡ not (mayStay (losing c) k)
+    lost-right emergency m = sym alert ∙ ap (λ t. t && not (mayStay (losing c) emergency)) m
+    lost-right sdoReply m = sym (ap not m)
+    lost-right heartbeat m = sym (ap not m)
+    lost-right (tpdo w) m = let s = keeps c w m in rw (s .operates, s .is-on, or-false (synchronous (pdo (communication c) w)))
 
-    lost-goes : goes c (losing c) ≡ those gone
-    lost-goes = rw (alert, and-not-self (isLive c), and-not-self (mayStay c heartbeat), show one, show two)
+    lost-goes : withdrawsIn (h .line) (goes c (losing c)) ≡ withdrawsIn (h .line) (those gone)
+    lost-goes = sym (withdrawn h v gone (losing c) lost-right)
 
     lost-comes : comes emergencyOnly (losing c) ≡ ifDue (canAlert && c .announced) line.emergency
     lost-comes = rw (alert-comes (isLive c && on (communication c .emergency) && eqb inhibit 0) (c .announced))

@@ -11,7 +11,8 @@ use Rattle.waiting.specs.Calls.{joinsIn, withdrawsIn, ifDue}
 use Rattle.parts.specs.declared.Nmt.{Nmt}
 use Rattle.parts.specs.declared.Sensor.the-variants.{Raw}
 use Rattle.promises.specs.States.{missingReading}
-use Rattle.promises.specs.WaitingLine.{mayAlert, mayShow}
+use Rattle.promises.specs.Timers.{synchronous}
+use Rattle.promises.specs.WaitingLine.{mayAlert}
 use Rattle.promises.specs.Calls.{badSample}
 use Rattle.samples.specs.declared.Sampled.{Sampled}
 use Rattle.samples.specs.declared.Missed.{Missed}
@@ -32,12 +33,12 @@ sampledOf s identifier inhibit r announced l raw =
     (record { refusal = 3; reading = r; line = l })
     (record { refusal = 0; reading = record { good = true; raw = raw }; line = foundLine s identifier inhibit (r .good) announced l })
 
--- the line once the position frames and an emergency that told "good" have gone
+-- the line once the position frames of types 254 and 255 and an emergency that told "good" have gone
 abbrev pub leftLine : Nmt → Communication → ℕ → Bool → List ℕ → List ℕ
 leftLine s k inhibit announced l =
     let told = withdrawsIn l (ifDue (free s (k .emergency) inhibit && not announced) emergency) in
-    let shown = withdrawsIn told (ifDue (mayShow s (k .pdo1 .identifier) true) tpdo1) in
-    withdrawsIn shown (ifDue (mayShow s (k .pdo2 .identifier) true) tpdo2)
+    let shown = withdrawsIn told (ifDue (not (synchronous (k .pdo1))) tpdo1) in
+    withdrawsIn shown (ifDue (not (synchronous (k .pdo2))) tpdo2)
 
 -- the line once a good reading went missing
 abbrev pub lostLine : Nmt → Communication → ℕ → Bool → List ℕ → List ℕ

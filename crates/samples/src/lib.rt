@@ -113,7 +113,7 @@ pub fn missing(
     }
 }
 
-// The line once a good reading went missing.
+// The line once a good reading went missing. A frame of types 1 to 240 stays: its position was fixed at a SYNC.
 fn lost(
     state: Nmt,
     settings: Communication,
@@ -123,21 +123,15 @@ fn lost(
 ) -> Line
     ensures { λ r. ⌜ r ≡ lostLine state settings «inhibit_ticks» announced line ⌝ }
 {
+    let pdo1 = settings.pdo1;
+    let pdo2 = settings.pdo2;
     let alerts = emergency::may_wait(state, settings.emergency, inhibit_ticks, false, true);
     if waiting::first(line) == EMPTY {
         return waiting::join_if(line, alerts & announced, EMERGENCY);
     }
     let left = waiting::withdraw_if(line, alerts & !announced, EMERGENCY);
-    let left = waiting::withdraw_if(
-        left,
-        tpdo::may_join(state, settings.pdo1.identifier, true),
-        TPDO1,
-    );
-    let left = waiting::withdraw_if(
-        left,
-        tpdo::may_join(state, settings.pdo2.identifier, true),
-        TPDO2,
-    );
+    let left = waiting::withdraw_if(left, !tpdo::is_synchronous(pdo1), TPDO1);
+    let left = waiting::withdraw_if(left, !tpdo::is_synchronous(pdo2), TPDO2);
     waiting::join_if(left, alerts & announced, EMERGENCY)
 }
 

@@ -62,7 +62,7 @@ module _ (h : Head) (v : Valid h) (live : isLive (h .core) ≡ true) (b : List �
       ap {B = Head} (λ l. record { core = d; transfer = h .transfer; line = l }) (reply-joins d (simp and-not-self) refl live)
 
   abbrev after : Device → Timers → Core
-  after d t = record { device = d; nmt = c .nmt; announced = c .announced; timers = t; reply = b }
+  after d t = record { device = d; nmt = c .nmt; announced = c .announced; timers = t; reply = b; fixed = c .fixed }
 
   abbrev settled : Core → Head
   settled d = record { core = d; transfer = h .transfer; line = joinsIn (withdrawsIn (h .line) (goes c d)) (comes requestMoments d) }

@@ -17,7 +17,7 @@ use Rattle.waiting.specs.Calls.{joinsIn, withdrawsIn}
 use Rattle.parts.specs.declared.Nmt.{Nmt}
 use Rattle.parts.specs.declared.Timers.{Timers}
 use Rattle.promises.specs.States.{pdo}
-use Rattle.promises.specs.WaitingLine.{Kind, emergency, sdoReply, heartbeat, tpdo, those, mayAlert, mayBeat, mayShow}
+use Rattle.promises.specs.WaitingLine.{Kind, emergency, sdoReply, heartbeat, tpdo, those, mayAlert, mayBeat, mayKeep}
 use Rattle.promises.specs.Timers.{timersWritten}
 use Rattle.server.specs.declared.effect.Replied.{Replied}
 use Rattle.server.specs.declared.effect.Emptied.{Emptied}
@@ -48,7 +48,7 @@ abbrev pub leavesAt : Nmt → Communication → ℕ → Bool → Bool → Kind �
 leavesAt s k inhibit good announced emergency = not (mayAlert s (k .emergency) inhibit good announced)
 leavesAt s k inhibit good announced sdoReply = false
 leavesAt s k inhibit good announced heartbeat = not (mayBeat s (k .heartbeat))
-leavesAt s k inhibit good announced (tpdo w) = not (mayShow s (pdo k w .identifier) good)
+leavesAt s k inhibit good announced (tpdo w) = not (mayKeep s (pdo k w) good)
 
 abbrev pub joinsAt : Nmt → Communication → ℕ → Bool → Bool → Kind → Bool
 joinsAt s k inhibit good announced emergency = mayAlert s (k .emergency) inhibit good announced

@@ -152,6 +152,8 @@ fn rewritten(
 ) -> Line
     ensures { λ r. ⌜ r ≡ rewrittenBy line state settings «inhibit_ticks» good announced ⌝ }
 {
+    let pdo1 = settings.pdo1;
+    let pdo2 = settings.pdo2;
     if (waiting::first(line) == EMPTY) & (good == announced) {
         return waiting::join(line, SDO_REPLY);
     }
@@ -162,8 +164,8 @@ fn rewritten(
             !alerts,
             false,
             !heartbeat::may_wait(state, settings.heartbeat),
-            !tpdo::may_join(state, settings.pdo1.identifier, good),
-            !tpdo::may_join(state, settings.pdo2.identifier, good),
+            !tpdo::may_stay(state, pdo1, good),
+            !tpdo::may_stay(state, pdo2, good),
         ],
     );
     waiting::join_those(left, [alerts, true, false, false, false])

@@ -127,7 +127,7 @@ module _ (h : Head) (v : Valid h) where
       by P (eqb k 4) (λ _. refl) (λ _. by P (eqb k 5) (λ _. refl) (λ _. refl)))))
 
   abbrev z : Slotted
-  z = slottedOf (node c) (c .nmt) (c .device .settings) (c .device .reading) (c .reply) (h .line)
+  z = slottedOf (node c) (c .nmt) (c .device .settings) (c .device .reading) (c .reply) (c .fixed) (h .line)
 
   frame-sent : z .outgoing .frame ≡ frameIn (frameBy c (sentBy c k))
   frame-sent =

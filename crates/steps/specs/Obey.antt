@@ -6,7 +6,7 @@ use mathlib.Core.List.{[], _∷_}
 use Rattle.cases.specs.Cases.{firstOf}
 use Rattle.parts.specs.declared.Head.{Head}
 use Rattle.parts.specs.Put.{withLine, withTimers, withNmt, withAnnounced, withReply, withErrors, withSaved, withSettings}
-use Rattle.parts.specs.Put.{withProfile, withCommunication}
+use Rattle.parts.specs.Put.{withProfile, withCommunication, withFixed}
 use Rattle.promises.specs.States.{communication, good}
 use Rattle.tpdo.specs.Sync.{syncedBy}
 use Rattle.nmt.specs.Entry.{enteredBy, restartedBy}
@@ -19,8 +19,8 @@ repliedIn h w = let r = repliedBy (h .line) (w .reply) in withLine (withReply h 
 abbrev pub syncedIn : Head → Head
 syncedIn h =
     let c = h .core in
-    let r = syncedBy (c .nmt) (communication c) (c .timers) (good c) (h .line) in
-    withLine (withTimers h (r .timers)) (r .line)
+    let r = syncedBy (c .nmt) (c .device .settings) (c .timers) (c .device .reading) (c .fixed) (h .line) in
+    withLine (withFixed (withTimers h (r .timers)) (r .fixed)) (r .line)
 
 abbrev pub configuredIn : Head → Heard → Head
 configuredIn h w =

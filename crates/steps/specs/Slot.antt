@@ -8,6 +8,7 @@ use Rattle.cases.specs.Padded.{pad}
 use Rattle.can.specs.declared.Frame.{Frame}
 use Rattle.can.specs.Number.{lowFirst}
 use Rattle.position.specs.Position.{position}
+use Rattle.entries.specs.declared.Pdo.{Pdo}
 use Rattle.entries.specs.declared.Reading.{Reading}
 use Rattle.entries.specs.declared.Settings.{Settings}
 use Rattle.dictionary.specs.Accepted.{on}
@@ -15,9 +16,10 @@ use Rattle.waiting.specs.Line as line
 use Rattle.waiting.specs.Line.{places, first}
 use Rattle.waiting.specs.Places.{takenIn}
 use Rattle.waiting.specs.Calls.{joinsIn, ifDue}
+use Rattle.parts.specs.declared.Fixed.{Fixed}
 use Rattle.parts.specs.declared.Nmt.{Nmt}
 use Rattle.promises.specs.States.{initialisingCode, preOperational, state}
-use Rattle.promises.specs.WaitingLine.{emergencyBytes, frame}
+use Rattle.promises.specs.WaitingLine.{emergencyBytes, carried, frame}
 use Rattle.promises.specs.Timers.{inhibitTicks}
 use Rattle.promises.specs.Calls.{noFrame}
 use Rattle.server.specs.Replies.{replyFrame}
@@ -34,24 +36,27 @@ abbrev pub stateFrame : ℕ → Nmt → Frame
 stateFrame node s = frame (0x700 + node) 1 (s .code ∷ [])
 
 -- the frame of the kind that stands first
-abbrev pub kindFrame : ℕ → Nmt → Settings → Reading → List ℕ → ℕ → Frame
-kindFrame node s settings r reply k =
-    let shown = lowFirst 4 (position (settings .profile) (r .raw)) in
+abbrev pub pdoFrame : Pdo → (atSlot fixed : ℕ) → Frame
+pdoFrame p atSlot fixed = frame (p .identifier) 4 (lowFirst 4 (carried p atSlot fixed))
+
+abbrev pub kindFrame : ℕ → Nmt → Settings → Reading → List ℕ → Fixed → ℕ → Frame
+kindFrame node s settings r reply x k =
+    let present = position (settings .profile) (r .raw) in
     cond (eqb k line.emergency) (frame (0x80 + node) 8 (emergencyBytes (r .good)))
     (cond (eqb k line.sdoReply) (replyFrame node reply)
     (cond (eqb k line.heartbeat) (stateFrame node s)
-    (cond (eqb k line.tpdo1) (frame (settings .communication .pdo1 .identifier) 4 shown)
-    (cond (eqb k line.tpdo2) (frame (settings .communication .pdo2 .identifier) 4 shown)
+    (cond (eqb k line.tpdo1) (pdoFrame (settings .communication .pdo1) present (x .pdo1))
+    (cond (eqb k line.tpdo2) (pdoFrame (settings .communication .pdo2) present (x .pdo2))
     noFrame))))
 
-abbrev pub slotFrame : ℕ → Nmt → Settings → Reading → List ℕ → ℕ → Frame
-slotFrame node s settings r reply k = cond (eqb (s .code) initialisingCode) (stateFrame node s) (kindFrame node s settings r reply k)
+abbrev pub slotFrame : ℕ → Nmt → Settings → Reading → List ℕ → Fixed → ℕ → Frame
+slotFrame node s settings r reply x k = cond (eqb (s .code) initialisingCode) (stateFrame node s) (kindFrame node s settings r reply x k)
 
-abbrev pub slottedOf : ℕ → Nmt → Settings → Reading → List ℕ → List ℕ → Slotted
-slottedOf node s settings r reply l =
+abbrev pub slottedOf : ℕ → Nmt → Settings → Reading → List ℕ → Fixed → List ℕ → Slotted
+slottedOf node s settings r reply x l =
     let way = slotWay s (first l) in
     record {
-      outgoing = record { waited = not (eqb way 0); frame = slotFrame node s settings r reply (first l) };
+      outgoing = record { waited = not (eqb way 0); frame = slotFrame node s settings r reply x (first l) };
       way = way;
     }
 

@@ -11,6 +11,7 @@ use can::Bytes;
 use can::Frame;
 use entries::Reading;
 use entries::Settings;
+use parts::Fixed;
 use parts::Nmt;
 use waiting::EMERGENCY;
 use waiting::EMPTY;
@@ -45,17 +46,18 @@ pub fn slot(
     settings: Settings,
     reading: Reading,
     reply: Bytes,
+    fixed: Fixed,
     line: Line,
 ) -> Slotted
     requires { ⌜ ValidProfile (settings .profile) ⌝ }
-    ensures { λ r. ⌜ r ≡ slottedOf node state settings reading reply line ⌝ }
+    ensures { λ r. ⌜ r ≡ slottedOf node state settings reading reply fixed line ⌝ }
 {
     let kind = waiting::first(line);
     let way = way(state, kind);
     Slotted {
         outgoing: Outgoing {
             waited: way != crate::NONE,
-            frame: frame(node, state, settings, reading, reply, kind),
+            frame: frame(node, state, settings, reading, reply, fixed, kind),
         },
         way,
     }
@@ -82,22 +84,24 @@ fn frame(
     settings: Settings,
     reading: Reading,
     reply: Bytes,
+    fixed: Fixed,
     kind: u8,
 ) -> Frame
     requires { ⌜ ValidProfile (settings .profile) ⌝ }
-    ensures { λ r. ⌜ r ≡ slotFrame node state settings reading reply kind ⌝ }
+    ensures { λ r. ⌜ r ≡ slotFrame node state settings reading reply fixed kind ⌝ }
 {
     if states::is_initialising(state) {
         return heartbeat::frame(node, state);
     }
-    let communication = settings.communication;
+    let pdo1 = settings.communication.pdo1;
+    let pdo2 = settings.communication.pdo2;
     let profile = settings.profile;
     match kind {
         EMERGENCY => emergency::frame(node, reading.good),
         SDO_REPLY => server::frame(node, reply),
         HEARTBEAT => heartbeat::frame(node, state),
-        TPDO1 => tpdo::frame(communication.pdo1.identifier, profile, reading.raw),
-        TPDO2 => tpdo::frame(communication.pdo2.identifier, profile, reading.raw),
+        TPDO1 => tpdo::frame(pdo1, profile, reading.raw, fixed.pdo1),
+        TPDO2 => tpdo::frame(pdo2, profile, reading.raw, fixed.pdo2),
         _ => none(),
     }
 }

@@ -1,7 +1,7 @@
 -- The head with the parts that a SYNC changes is what `promises` says.
 use Prim.Native.Nat.{ℕ}
 use native.Mathlib.Omega.{arith}
-use mathlib.Core.Path.{_≡_, refl, sym, ap, _∙_}
+use mathlib.Core.Path.{_≡_, refl, sym, ap, ap₂, _∙_}
 use mathlib.Core.Bool.{Bool, true, false, _&&_, cond, and-false, and-not-self}
 use mathlib.Core.List.{List, [], _∷_}
 use Rattle.cases.proofs.Cases.{by}
@@ -11,13 +11,14 @@ use Rattle.waiting.specs.Calls.{joinsIn, withdrawsIn, ifDue}
 use Rattle.waiting.proofs.Unmoved.{keeps-place}
 use Rattle.parts.specs.declared.Core.{Core}
 use Rattle.parts.specs.declared.Head.{Head}
-use Rattle.parts.specs.Put.{withLine, withTimers}
-use Rattle.promises.specs.States.{PdoNumber, one, two, pdo, clock, communication, good, operational, isIn}
+use Rattle.parts.specs.declared.Fixed.{Fixed}
+use Rattle.parts.specs.Put.{withLine, withTimers, withFixed}
+use Rattle.promises.specs.States.{PdoNumber, one, two, pdo, clock, fixedFor, communication, good, operational, isIn}
 use Rattle.promises.specs.Timers.{synchronous, completes, timersSynced}
-use Rattle.promises.specs.WaitingLine.{tpdo, mayJoin, isAlerting}
-use Rattle.promises.specs.Acts.{sync, timing, syncMoments, goes, comes, settledTo, act}
+use Rattle.promises.specs.WaitingLine.{tpdo, mayJoin, present, isAlerting}
+use Rattle.promises.specs.Acts.{sync, synchronising, fixedBySync, syncMoments, goes, comes, settledTo, act}
 use Rattle.promises.specs.Valid.{Valid}
-use Rattle.tpdo.specs.Sync.{joinsAt, syncedBy}
+use Rattle.tpdo.specs.Sync.{joinsAt, fixedAnew, syncedBy}
 
 -- a test that the second condition makes anyway can be added to the first
 gated : (s c o n g : Bool) → ((s && c) && ((o && n) && g)) ≡ (((n && s) && c) && ((o && n) && g))
@@ -34,7 +35,7 @@ module _ (h : Head) (v : Valid h) where
   c = h .core
 
   abbrev after : Core
-  after = timing c (timersSynced (communication c) (c .timers))
+  after = synchronising c
 
   -- other counts of SYNCs withdraw none
   none-goes : goes c after ≡ []
@@ -64,8 +65,17 @@ module _ (h : Head) (v : Valid h) where
       rw (none-goes, joins-so one, joins-so two)
       (emergency-waits ∙ in-front (joins one) line.tpdo1 (ifDue (joins two) line.tpdo2) (h .line))
 
+  -- the same test fixes the position
+  fixed-so : (w : PdoNumber) → cond (joins w) (present c) (fixedFor (c .fixed) w) ≡ fixedBySync c w
+  fixed-so w = ap (λ t. cond t (present c) (fixedFor (c .fixed) w)) (sym (joins-so w))
+
+  fixes : fixedAnew (joins one) (joins two) (c .device .settings .profile) (c .device .reading .raw) (c .fixed) ≡ after .fixed
+  fixes = ap₂ {C = Fixed} (λ x y. record { pdo1 = x; pdo2 = y }) (fixed-so one) (fixed-so two)
+
   pub syncs :
-      let z = syncedBy (c .nmt) (communication c) (c .timers) (good c) (h .line) in
-      withLine (withTimers h (z .timers)) (z .line) ≡ act false h sync
+      let z = syncedBy (c .nmt) (c .device .settings) (c .timers) (c .device .reading) (c .fixed) (h .line) in
+      withLine (withFixed (withTimers h (z .timers)) (z .fixed)) (z .line) ≡ act false h sync
   unfolding act settledTo
-  syncs = ap {B = Head} (λ l. record { line = l; transfer = h .transfer; core = after }) (sym line-so)
+  syncs =
+      let k = c .device .settings .communication in
+      ap₂ {C = Head} (λ x l. withLine (withFixed (withTimers h (timersSynced k (c .timers))) x) l) fixes (sym line-so)

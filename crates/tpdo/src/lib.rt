@@ -5,7 +5,7 @@ ghost use Rattle.position.specs.Position.{position};
 ghost use Rattle.position.specs.Profile.{ValidProfile};
 ghost use Rattle.promises.specs.States.{uncounted as uncountedClock};
 ghost use Rattle.promises.specs.Timers.{synchronous, clockWritten};
-ghost use Rattle.promises.specs.WaitingLine.{mayShow, frame as frameWith};
+ghost use Rattle.promises.specs.WaitingLine.{mayShow, mayKeep, carried as carriedBy, frame as frameWith};
 ghost use Rattle.tpdo.specs.Moments.{eventCount, syncCount};
 use acceptance::is_on;
 use can::Frame;
@@ -34,6 +34,13 @@ pub fn may_join(state: Nmt, identifier: u32, good: bool) -> bool
     ensures { λ r. ⌜ r ≡ mayShow state identifier good ⌝ }
 {
     states::is_operational(state) & is_on(identifier) & good
+}
+
+// A frame of types 1 to 240 stays whatever the reading, one of types 254 and 255 only while it is good.
+pub fn may_stay(state: Nmt, pdo: Pdo, good: bool) -> bool
+    ensures { λ r. ⌜ r ≡ mayKeep state pdo good ⌝ }
+{
+    may_join(state, pdo.identifier, is_synchronous(pdo) | good)
 }
 
 pub fn uncounted() -> Clock
@@ -83,14 +90,24 @@ pub fn written(event: bool, before: Pdo, after: Pdo, clock: Clock) -> Clock
     }
 }
 
-pub fn frame(identifier: u32, profile: Profile, raw: u32) -> Frame
+// The position that the frame carries: `fixed` at the SYNC, or the one at the slot.
+fn carried(pdo: Pdo, profile: Profile, raw: u32, fixed: u32) -> u32
     requires { ⌜ ValidProfile profile ⌝ }
-    ensures { λ r. ⌜ r ≡ frameWith identifier 4 (lowFirst 4 (position profile raw)) ⌝ }
+    ensures { λ r. ⌜ r ≡ carriedBy pdo (position profile raw) fixed ⌝ }
 {
-    let position = position::position_of(profile, raw);
-    let low = can::long_bytes(position);
+    if is_synchronous(pdo) {
+        return fixed;
+    }
+    position::position_of(profile, raw)
+}
+
+pub fn frame(pdo: Pdo, profile: Profile, raw: u32, fixed: u32) -> Frame
+    requires { ⌜ ValidProfile profile ⌝ }
+    ensures { λ r. ⌜ r ≡ frameWith (pdo .identifier) 4 (lowFirst 4 (carriedBy pdo (position profile raw) fixed)) ⌝ }
+{
+    let low = can::long_bytes(carried(pdo, profile, raw, fixed));
     Frame {
-        identifier,
+        identifier: pdo.identifier,
         length: LENGTH,
         bytes: [low[0], low[1], low[2], low[3], 0, 0, 0, 0],
     }

@@ -98,6 +98,12 @@ fn segment(toggle: u8) -> Call {
     data(0x601, [0x60 + 16 * toggle, 0, 0, 0, 0, 0, 0, 0])
 }
 
+/// A write of one byte.
+fn write_1(index: u16, sub: u8, value: u8) -> Call {
+    let [low, high] = index.to_le_bytes();
+    data(0x601, [0x2F, low, high, sub, value, 0, 0, 0])
+}
+
 /// A write of two bytes.
 fn write_2(index: u16, sub: u8, value: u16) -> Call {
     let [low, high] = index.to_le_bytes();
@@ -123,6 +129,14 @@ fn operational() -> Vec<Call> {
     let heartbeat = write_2(0x1017, 0, 1000);
     let entry = [heartbeat, Call::Slot, start(), Call::Slot];
     [pre_operational(), entry.to_vec()].concat()
+}
+
+/// As `operational`, but TPDO2 at each second SYNC, counted from now on.
+fn each_second_sync() -> Vec<Call> {
+    use Call::Slot;
+    let (off, on) = (write_4(0x1801, 1, 0x8000_0281), write_4(0x1801, 1, 0x281));
+    let second = write_1(0x1801, 2, 2);
+    then(operational(), [off, Slot, second, Slot, on, Slot])
 }
 
 /// As `operational`, but a heartbeat and TPDO1 at each tick.
@@ -194,12 +208,16 @@ fn samples() -> Vec<Case> {
     let missing = then(operational(), [Missing, Slot]);
     let ended = "081 8 00 00 00 00 00 00 00 00";
     let with_pdos = then(busy(), [Tick, sync(), read(0x6004, 0)]);
-    let without = "701 1 05, 581 8 43 04 60 00 05 10 01 00, 081 8 00 50 01 00 00 00 00 00";
-    let left = "581 8 43 04 60 00 05 10 01 00, 701 1 05";
+    let without = "701 1 05, 281 4 05 10 01 00, 581 8 43 04 60 00 05 10 01 00, \
+                   081 8 00 50 01 00 00 00 00 00";
+    let synced = then(operational(), [sync()]);
+    let kept = "281 4 05 10 01 00, 081 8 00 50 01 00 00 00 00 00";
+    let left = "581 8 43 04 60 00 05 10 01 00, 701 1 05, 281 4 05 10 01 00";
     vec![
         case("sample-good-again", operational(), Sample(70_000), ""),
         case("missing-after-good", operational(), Missing, ANNOUNCED),
         case("missing-takes-pdos", with_pdos, Missing, without),
+        case("missing-keeps-tpdo2", synced, Missing, kept),
         case("missing-full-line", full(), Missing, left),
         case("good-after-missing", missing, Sample(RAW), ended),
     ]
@@ -210,6 +228,7 @@ fn frames() -> Vec<Case> {
     vec![
         case("foreign-frame", operational(), foreign, ""),
         case("sync", operational(), sync(), TPDO2),
+        case("sync-not-due", each_second_sync(), sync(), ""),
         case("sync-full-line", full(), sync(), ALL_FIVE),
         case("nmt-present-state", operational(), start(), ""),
     ]

@@ -52,12 +52,15 @@ impl Countdown {
 struct Due {
     ticks: Countdown,
     syncs: Countdown,
+    /// The position at the last due SYNC that found a good reading.
+    fixed: u32,
 }
 
 impl Due {
     const IDLE: Due = Due {
         ticks: Countdown::IDLE,
         syncs: Countdown::IDLE,
+        fixed: 0,
     };
 }
 
@@ -172,8 +175,8 @@ impl Head {
             self.errors = (self.errors + 1).min(MOST_ERRORS);
         }
         self.reading = None;
-        self.line.withdraw(Kind::Tpdo1);
-        self.line.withdraw(Kind::Tpdo2);
+        self.withdraw_timed(Which::One);
+        self.withdraw_timed(Which::Two);
         self.review_emergency();
     }
 
@@ -335,6 +338,13 @@ impl Head {
 
 /// Transmit PDOs.
 impl Head {
+    fn due(&self, which: Which) -> &Due {
+        match which {
+            Which::One => &self.due1,
+            Which::Two => &self.due2,
+        }
+    }
+
     fn due_mut(&mut self, which: Which) -> &mut Due {
         match which {
             Which::One => &mut self.due1,
@@ -380,7 +390,15 @@ impl Head {
         let timed = self.settings.communication.pdo(which).is_timed();
         if !timed && self.due_mut(which).syncs.ends() {
             self.restart_pdo_syncs(which);
+            self.fix_position(which);
             self.join_pdo(which);
+        }
+    }
+
+    /// While missing, a frame that waits keeps the position it has.
+    fn fix_position(&mut self, which: Which) {
+        if let Some(position) = self.position() {
+            self.due_mut(which).fixed = position;
         }
     }
 
@@ -391,9 +409,20 @@ impl Head {
         }
     }
 
+    /// Takes a frame of types 254 and 255: its position would be that at the slot.
+    fn withdraw_timed(&mut self, which: Which) {
+        if self.settings.communication.pdo(which).is_timed() {
+            self.line.withdraw(which.kind());
+        }
+    }
+
     fn position_frame(&self, which: Which) -> Option<Frame> {
-        let identifier = self.settings.communication.pdo(which).frame_identifier();
-        self.position()
-            .map(|position| Frame::of_four(identifier, position))
+        let pdo = self.settings.communication.pdo(which);
+        let position = if pdo.is_timed() {
+            self.position()?
+        } else {
+            self.due(which).fixed
+        };
+        Some(Frame::of_four(pdo.frame_identifier(), position))
     }
 }

@@ -2,7 +2,7 @@
 
 mod common;
 use common::{Bench, OFF};
-use reference::Kind;
+use reference::{Frame, Kind};
 
 const EMERGENCY: u32 = 0x081;
 const REPLY: u32 = 0x581;
@@ -72,14 +72,21 @@ fn slot_sends_nothing_exactly_if_nothing_waits() {
 }
 
 #[test]
-fn the_reply_is_fixed_at_the_request_and_the_position_at_the_slot() {
+fn reply_fixed_at_the_request_and_position_at_the_sync_or_the_slot() {
     let mut bench = Bench::operational(1);
+    bench.ticks(100);
     bench.frame(0x601, &[0x40, 0x04, 0x60, 0, 0, 0, 0, 0]);
     bench.sync();
     bench.sample(2);
     let frames = bench.drain();
-    assert_eq!(frames[0].bytes, [0x43, 0x04, 0x60, 0, 1, 0, 0, 0]);
-    assert_eq!(frames[1].bytes, [2, 0, 0, 0, 0, 0, 0, 0]);
+    assert_eq!(bytes_of(&frames, TPDO1), [2, 0, 0, 0, 0, 0, 0, 0]);
+    assert_eq!(bytes_of(&frames, REPLY), [0x43, 0x04, 0x60, 0, 1, 0, 0, 0]);
+    assert_eq!(bytes_of(&frames, TPDO2), [1, 0, 0, 0, 0, 0, 0, 0]);
+}
+
+fn bytes_of(frames: &[Frame], identifier: u32) -> [u8; 8] {
+    let found = frames.iter().find(|frame| frame.identifier == identifier);
+    found.expect("a frame").bytes
 }
 
 #[test]
@@ -106,12 +113,12 @@ fn leaving_operational_takes_the_pdos() {
 }
 
 #[test]
-fn a_missing_sample_takes_the_pdos() {
+fn a_missing_sample_takes_the_pdo_that_is_not_by_sync() {
     let mut bench = crowded();
     bench.missing();
-    assert_eq!(bench.line(), [REPLY, HEARTBEAT]);
+    assert_eq!(bench.line(), [REPLY, TPDO2, HEARTBEAT]);
     bench.sample(3);
-    assert_eq!(bench.line(), [REPLY, HEARTBEAT, EMERGENCY]);
+    assert_eq!(bench.line(), [REPLY, TPDO2, HEARTBEAT, EMERGENCY]);
 }
 
 #[test]

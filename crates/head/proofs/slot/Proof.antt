@@ -13,7 +13,7 @@ sent-requires c κs = search needs
 returns : tie.Need-returns
 returns c =
     let at-slot = c .before .before in
-    let start = at-slot .before .before .before .before .before .before in
+    let start = at-slot .before .before .before .before .before .before .before in
     rw (c .sent .ensures, at-slot .slot .ensures) (slots (start .args .head) (start .pre))
 
 pub slot-spec : {M : Type 1} → statement M

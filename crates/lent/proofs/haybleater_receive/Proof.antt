@@ -40,9 +40,9 @@ use Rattle.lending.proofs.Lent.{answers, lent}
 use Rattle.lent.proofs.Rows.{lent-head, head-row, received-row, heard-row, replied-row, synced-row, configured-row, scaled-row}
 use Rattle.lent.proofs.Rows.{entered-row, restarted-row, saved-row, emptied-row}
 use Rattle.lent.proofs.Parts.{nmt, device, line, reply, timers, communication, good, announced, profile, raw, settings, saved}
-use Rattle.lent.proofs.Parts.{node, errors, transfer}
+use Rattle.lent.proofs.Parts.{node, errors, transfer, reading, fixed}
 use Rattle.lent.proofs.Results.{heard-refusal, heard-transfer, heard-way, heard-state, heard-all, heard-reply, heard-key, heard-value}
-use Rattle.lent.proofs.Results.{replied-reply, replied-line, synced-timers, synced-line, scaled-profile, scaled-reply, scaled-line}
+use Rattle.lent.proofs.Results.{replied-reply, replied-line, synced-timers, synced-fixed, synced-line, scaled-profile, scaled-reply, scaled-line}
 use Rattle.lent.proofs.Results.{configured-communication, configured-timers, configured-reply, configured-line}
 use Rattle.lent.proofs.Results.{entered-nmt, entered-timers, entered-line}
 use Rattle.lent.proofs.Results.{restarted-settings, restarted-nmt, restarted-announced, restarted-timers, restarted-line}
@@ -68,9 +68,12 @@ haybleater-receive-spec 𝓤 H 𝓜 𝓖 𝓡 =
     -- a SYNC
     (way 2
     (calls
-    (step sync.name synced-row (head (nmt .from) ∷ head (communication .from) ∷ head (timers .from) ∷ head good ∷ head (line .from) ∷ [])
-    (λ a. none) (λ a z. one (z ≡ syncedBy (a .0) (a .1 .0) (a .1 .1 .0) (a .1 .1 .1 .0) (a .1 .1 .1 .1 .0))))
-    (store (here (synced-timers ▸ whole)) (timers .into) (store (here (synced-line ▸ whole)) (line .into) stop)))
+    (step sync.name synced-row
+    (head (nmt .from) ∷ head (settings .from) ∷ head (timers .from) ∷ head (reading .from) ∷ head (fixed .from) ∷ head (line .from) ∷ [])
+    (λ a. one (ValidProfile (a .1 .0 .profile)))
+    (λ a z. one (z ≡ syncedBy (a .0) (a .1 .0) (a .1 .1 .0) (a .1 .1 .1 .0) (a .1 .1 .1 .1 .0) (a .1 .1 .1 .1 .1 .0))))
+    (store (here (synced-timers ▸ whole)) (timers .into)
+    (store (here (synced-fixed ▸ whole)) (fixed .into) (store (here (synced-line ▸ whole)) (line .into) stop))))
     -- a write of the communication settings
     (way 3
     (store (here (heard-transfer ▸ whole)) (transfer .into)
@@ -145,7 +148,7 @@ haybleater-receive-spec 𝓤 H 𝓜 𝓖 𝓡 =
           let w = ap (λ (y : Heard). y .way) (sym e) in (
             λ hit. (tt, λ o i. rw (i, e) (received.replies-so h v f (w ∙ hit))),
             (
-              λ hit. (tt, λ o i. rw (i, e) (received.syncs-so h v f (w ∙ hit))),
+              λ hit. (v .device .settings .profile, λ o i. rw (i, e) (received.syncs-so h v f (w ∙ hit))),
               (
                 λ hit. (tt, λ o i. rw (i, e) (received.configures-so h v f (w ∙ hit))),
                 (

@@ -25,7 +25,7 @@ use Rattle.lending.proofs.Body.{step, stop, store, calls, match, way, otherwise
 use Rattle.lending.proofs.Lent.{answers, lent}
 use Rattle.lent.specs.Steps.{sentAs}
 use Rattle.lent.proofs.Rows.{lent-head, head-row, outgoing-row, slotted-row, booted-row, announced-row, taken-row}
-use Rattle.lent.proofs.Parts.{node, nmt, settings, reading, reply, line, emergency, good, inhibit-time, announced, inhibit}
+use Rattle.lent.proofs.Parts.{node, nmt, settings, reading, reply, fixed, line, emergency, good, inhibit-time, announced, inhibit}
 use Rattle.lent.proofs.Results.{slotted-outgoing, slotted-way, booted-nmt, booted-line}
 use Rattle.lent.proofs.Results.{announced-announced, announced-inhibit, announced-line, taken-line}
 use Rattle.lent.proofs.haybleater_slot.Key.{name as #self}
@@ -37,9 +37,10 @@ unfolding code.routine
 haybleater-slot-spec 𝓤 H 𝓜 𝓖 𝓡 =
     lent outgoing-row head-row lent-head []
     (step slot.name slotted-row
-    (head node ∷ head (nmt .from) ∷ head (settings .from) ∷ head (reading .from) ∷ head (reply .from) ∷ head (line .from) ∷ [])
+    (head node ∷ head (nmt .from) ∷ head (settings .from) ∷ head (reading .from) ∷ head (reply .from) ∷ head (fixed .from)
+    ∷ head (line .from) ∷ [])
     (λ a. one (ValidProfile (a .1 .1 .0 .profile)))
-    (λ a z. one (z ≡ slottedOf (a .0) (a .1 .0) (a .1 .1 .0) (a .1 .1 .1 .0) (a .1 .1 .1 .1 .0) (a .1 .1 .1 .1 .1 .0))))
+    (λ a z. one (z ≡ slottedOf (a .0) (a .1 .0) (a .1 .1 .0) (a .1 .1 .1 .0) (a .1 .1 .1 .1 .0) (a .1 .1 .1 .1 .1 .0) (a .1 .1 .1 .1 .1 .1 .0))))
     (match (here (slotted-way ▸ whole))
     (way 1
     (calls (step boot.name booted-row (head emergency ∷ head good ∷ []) (λ a. none) (λ a z. one (z ≡ bootedOf (a .0) (a .1 .0))))

@@ -26,14 +26,14 @@ returns c =
 withdraw-if-requires : tie.Need-withdraw-if-requires
 withdraw-if-requires c κs = search needs
 
-may-join-requires : tie.Need-may-join-requires
-may-join-requires c κs = search needs
+is-synchronous-requires : tie.Need-is-synchronous-requires
+is-synchronous-requires c κs = search needs
 
 withdraw-if-requires-2 : tie.Need-withdraw-if-requires-2
 withdraw-if-requires-2 c κs = search needs
 
-may-join-requires-2 : tie.Need-may-join-requires-2
-may-join-requires-2 c κs = search needs
+is-synchronous-requires-2 : tie.Need-is-synchronous-requires-2
+is-synchronous-requires-2 c κs = search needs
 
 withdraw-if-requires-3 : tie.Need-withdraw-if-requires-3
 withdraw-if-requires-3 c κs = search needs
@@ -49,9 +49,9 @@ returns-2 c =
     rw (
       c .join-if2 .ensures,
       c .before .withdraw-if3 .ensures,
-      c .before .before .may-join2 .ensures,
+      c .before .before .is-synchronous2 .ensures,
       second .withdraw-if2 .ensures,
-      second .before .may-join .ensures,
+      second .before .is-synchronous .ensures,
       first .withdraw-if .ensures,
       at-first .before .may-wait .ensures,
       ← at-first .first .ensures,
@@ -67,9 +67,9 @@ lost-spec =
     join-if-requires
     returns
     withdraw-if-requires
-    may-join-requires
+    is-synchronous-requires
     withdraw-if-requires-2
-    may-join-requires-2
+    is-synchronous-requires-2
     withdraw-if-requires-3
     join-if-requires-2
     returns-2)

@@ -8,7 +8,7 @@ replied-requires : tie.Need-replied-requires
 replied-requires c κs = search needs
 
 synced-requires : tie.Need-synced-requires
-synced-requires c κs = search needs
+synced-requires c κs = c .before .pre .valid
 
 configured-requires : tie.Need-configured-requires
 configured-requires c κs = search needs

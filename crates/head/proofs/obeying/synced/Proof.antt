@@ -7,7 +7,7 @@ sync-requires : tie.Need-sync-requires
 sync-requires c κs = search needs
 
 returns : tie.Need-returns
-returns c = rw (c .before .before .before .before .sync .ensures)
+returns c = rw (c .before .before .before .before .before .sync .ensures)
 
 pub synced-spec : {M : Type 1} → statement M
 synced-spec = tie.close (tie.spec sync-requires returns)

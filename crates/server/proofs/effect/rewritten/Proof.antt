@@ -18,11 +18,11 @@ may-wait-requires c κs = search needs
 may-wait-requires-2 : tie.Need-may-wait-requires-2
 may-wait-requires-2 c κs = search needs
 
-may-join-requires : tie.Need-may-join-requires
-may-join-requires c κs = search needs
+may-stay-requires : tie.Need-may-stay-requires
+may-stay-requires c κs = search needs
 
-may-join-requires-2 : tie.Need-may-join-requires-2
-may-join-requires-2 c κs = search needs
+may-stay-requires-2 : tie.Need-may-stay-requires-2
+may-stay-requires-2 c κs = search needs
 
 withdraw-those-requires : tie.Need-withdraw-those-requires
 withdraw-those-requires c κs = search needs
@@ -35,8 +35,8 @@ returns-2 c =
     rw (
       c .join-those .ensures,
       c .before .withdraw-those .ensures,
-      c .before .before .may-join2 .ensures,
-      c .before .before .before .may-join .ensures,
+      c .before .before .may-stay2 .ensures,
+      c .before .before .before .may-stay .ensures,
       c .before .before .before .before .may-wait2 .ensures,
       c .before .before .before .before .before .may-wait .ensures,
       ← c .before .before .before .before .before .before .before .first .ensures,
@@ -52,8 +52,8 @@ rewritten-spec =
     returns
     may-wait-requires
     may-wait-requires-2
-    may-join-requires
-    may-join-requires-2
+    may-stay-requires
+    may-stay-requires-2
     withdraw-those-requires
     join-those-requires
     returns-2)

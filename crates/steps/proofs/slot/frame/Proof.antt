@@ -35,7 +35,7 @@ none-requires c κs = search needs
 
 returns-2 : tie.Need-returns-2
 returns-2 c =
-    let tested = c .before .before .before .before in
+    let tested = c .before .before .before .before .before in
     rw (
       sym (tested .before .is-initialising .ensures) ∙ tested .if1 .left,
       c .frame2 .ensures,
@@ -44,7 +44,7 @@ returns-2 c =
 
 returns-3 : tie.Need-returns-3
 returns-3 c =
-    let tested = c .before .before .before .before in
+    let tested = c .before .before .before .before .before in
     rw (
       sym (tested .before .is-initialising .ensures) ∙ tested .if1 .left,
       c .frame3 .ensures,
@@ -53,7 +53,7 @@ returns-3 c =
 
 returns-4 : tie.Need-returns-4
 returns-4 c =
-    let tested = c .before .before .before .before in
+    let tested = c .before .before .before .before .before in
     rw (
       sym (tested .before .is-initialising .ensures) ∙ tested .if1 .left,
       c .frame4 .ensures,
@@ -62,7 +62,7 @@ returns-4 c =
 
 returns-5 : tie.Need-returns-5
 returns-5 c =
-    let tested = c .before .before .before .before in
+    let tested = c .before .before .before .before .before in
     rw (
       sym (tested .before .is-initialising .ensures) ∙ tested .if1 .left,
       c .frame5 .ensures,
@@ -71,7 +71,7 @@ returns-5 c =
 
 returns-6 : tie.Need-returns-6
 returns-6 c =
-    let tested = c .before .before .before .before in
+    let tested = c .before .before .before .before .before in
     rw (
       sym (tested .before .is-initialising .ensures) ∙ tested .if1 .left,
       c .frame6 .ensures,
@@ -80,7 +80,7 @@ returns-6 c =
 
 returns-7 : tie.Need-returns-7
 returns-7 c =
-    let tested = c .before .before .before .before in
+    let tested = c .before .before .before .before .before in
     let other = c .before .match .rest in
     rw (
       sym (tested .before .is-initialising .ensures) ∙ tested .if1 .left,

@@ -15,6 +15,9 @@ may-join-requires c κs = search needs
 may-join-requires-2 : tie.Need-may-join-requires-2
 may-join-requires-2 c κs = search needs
 
+anew-requires : tie.Need-anew-requires
+anew-requires c κs = search needs
+
 join-if-requires : tie.Need-join-if-requires
 join-if-requires c κs = search needs
 
@@ -23,11 +26,12 @@ join-if-requires-2 c κs = search needs
 
 returns : tie.Need-returns
 returns c =
-    let at-second = c .before .before .before in
+    let at-second = c .before .before .before .before in
     let at-first = at-second .before .before in
     rw (
       c .join-if2 .ensures,
       c .before .join-if .ensures,
+      c .before .before .anew .ensures,
       at-second .may-join2 .ensures,
       at-first .may-join .ensures,
       at-first .before .synced2 .ensures,
@@ -42,6 +46,7 @@ sync-spec =
     synced-requires-2
     may-join-requires
     may-join-requires-2
+    anew-requires
     join-if-requires
     join-if-requires-2
     returns)

@@ -7,9 +7,10 @@ use reference::wire::{Answer, Call, Outcome};
 use reference::{abort, refusal, Frame, Head, Identity, Kind, Received, State, Transfer};
 
 use crate::dictionary::{peek, ENTRIES, NAMES};
+use crate::fixed::{self, is_of_sync_type};
 
 /// Group, what, how.
-type Item = (&'static str, &'static str, &'static str);
+pub type Item = (&'static str, &'static str, &'static str);
 
 const STATES: [(u8, &str); 4] = [
     (State::Initialising as u8, "Initialising"),
@@ -32,12 +33,12 @@ const ABORTS: [(u32, &str); 11] = [
     (abort::BLANK, "0800 0024h"),
 ];
 
-const KINDS: [(Kind, &str); 5] = [
-    (Kind::Emergency, "emergency"),
-    (Kind::Reply, "reply"),
-    (Kind::Heartbeat, "heartbeat"),
-    (Kind::Tpdo1, "TPDO1"),
-    (Kind::Tpdo2, "TPDO2"),
+const KINDS: [Kind; 5] = [
+    Kind::Emergency,
+    Kind::Reply,
+    Kind::Heartbeat,
+    Kind::Tpdo1,
+    Kind::Tpdo2,
 ];
 
 const REFUSALS: [&str; 6] = ["", "1", "2", "3", "4", "5"];
@@ -95,7 +96,7 @@ const TRANSFERS: [(&str, &[&str]); 3] = [
     ),
 ];
 
-const JOINS: [(&str, &[&str]); 5] = [
+const JOINS: [(&str, &[&str]); 7] = [
     (
         "emergency",
         &[
@@ -110,11 +111,13 @@ const JOINS: [(&str, &[&str]); 5] = [
     ),
     ("reply", &[REQUEST]),
     ("heartbeat", &[TICK]),
-    ("TPDO1", &[TICK, SYNC, TO_OPERATIONAL]),
-    ("TPDO2", &[TICK, SYNC, TO_OPERATIONAL]),
+    ("TPDO1 of 254, 255", &[TICK, TO_OPERATIONAL]),
+    ("TPDO1 of 1..240", &[SYNC]),
+    ("TPDO2 of 254, 255", &[TICK, TO_OPERATIONAL]),
+    ("TPDO2 of 1..240", &[SYNC]),
 ];
 
-const WITHDRAWALS: [(&str, &[&str]); 5] = [
+const WITHDRAWALS: [(&str, &[&str]); 7] = [
     (
         "emergency",
         &[RESET, TO_STOPPED, SAMPLE, NO_SAMPLE, REQUEST],
@@ -122,12 +125,31 @@ const WITHDRAWALS: [(&str, &[&str]); 5] = [
     ("reply", &[RESET, TO_STOPPED]),
     ("heartbeat", &[RESET, REQUEST]),
     (
-        "TPDO1",
+        "TPDO1 of 254, 255",
         &[RESET, TO_STOPPED, TO_PRE_OPERATIONAL, NO_SAMPLE, REQUEST],
     ),
     (
-        "TPDO2",
+        "TPDO1 of 1..240",
+        &[RESET, TO_STOPPED, TO_PRE_OPERATIONAL, REQUEST],
+    ),
+    (
+        "TPDO2 of 254, 255",
         &[RESET, TO_STOPPED, TO_PRE_OPERATIONAL, NO_SAMPLE, REQUEST],
+    ),
+    (
+        "TPDO2 of 1..240",
+        &[RESET, TO_STOPPED, TO_PRE_OPERATIONAL, REQUEST],
+    ),
+];
+
+const WITHDRAWALS_WHILE_MISSING: [(&str, &[&str]); 2] = [
+    (
+        "TPDO1 of 1..240",
+        &[RESET, TO_STOPPED, TO_PRE_OPERATIONAL, REQUEST],
+    ),
+    (
+        "TPDO2 of 1..240",
+        &[RESET, TO_STOPPED, TO_PRE_OPERATIONAL, REQUEST],
     ),
 ];
 
@@ -176,7 +198,7 @@ pub struct Coverage {
 
 impl Coverage {
     pub fn new() -> Coverage {
-        let mut items: Vec<Item> = SINGLE.to_vec();
+        let mut items: Vec<Item> = [&SINGLE[..], &fixed::ITEMS].concat();
         for (_, state) in STATES {
             items.extend([("state", state, ""), ("request", "in state", state)]);
         }
@@ -197,6 +219,10 @@ impl Coverage {
         items.extend(crossed("transfer", &TRANSFERS));
         items.extend(crossed("joined", &JOINS));
         items.extend(crossed("withdrawn", &WITHDRAWALS));
+        items.extend(crossed(
+            "withdrawn while missing",
+            &WITHDRAWALS_WHILE_MISSING,
+        ));
         Coverage {
             counts: items.into_iter().map(|item| (item, 0)).collect(),
             unforeseen: Vec::new(),
@@ -286,12 +312,23 @@ impl Coverage {
         if cause == POWER_UP || cause == COPY {
             return;
         }
-        for (kind, name) in KINDS {
+        for kind in KINDS {
             match (before.waits(kind), after.waits(kind)) {
-                (false, true) => self.count(("joined", name, cause)),
-                (true, false) if cause != SLOT => self.count(("withdrawn", name, cause)),
+                (false, true) => self.count(("joined", kind_name(kind, after), cause)),
+                (true, false) if cause != SLOT => self.observe_withdrawal(before, kind, cause),
                 _ => {}
             }
+        }
+        for item in fixed::items(before, call, after) {
+            self.count(item);
+        }
+    }
+
+    fn observe_withdrawal(&mut self, before: &Head, kind: Kind, cause: &'static str) {
+        let name = kind_name(kind, before);
+        self.count(("withdrawn", name, cause));
+        if matches!(kind, Kind::Tpdo1 | Kind::Tpdo2) && !before.reading_good() {
+            self.count(("withdrawn while missing", name, cause));
         }
     }
 
@@ -318,10 +355,7 @@ impl Coverage {
     }
 
     fn observe_sync(&mut self, before: &Head, frame: &Received, after: &Head) {
-        let passes = |head: &mut Head| {
-            head.receive(frame);
-        };
-        if is_passed_over(before, passes) {
+        if is_passed_over(before, &Call::Receive(*frame)) {
             self.count(("passed over", "SYNC", "reading missing"));
         }
         for (kind, index) in [(Kind::Tpdo1, 0x1800), (Kind::Tpdo2, 0x1801)] {
@@ -349,7 +383,7 @@ impl Coverage {
         if joined(before, after, Kind::Tpdo1) && peek(after, 0x1800, 5) == Some(65_535) {
             self.count(("event timer", "joined", "after 65535 ms"));
         }
-        if is_passed_over(before, Head::tick) {
+        if is_passed_over(before, &Call::Tick) {
             self.count(("passed over", "tick", "reading missing"));
         }
     }
@@ -471,6 +505,19 @@ fn state_name(code: u8) -> &'static str {
     found.map_or("unknown", |(_, name)| name)
 }
 
+/// In the head's state a waiting or joining PDO can be asked for its type.
+fn kind_name(kind: Kind, head: &Head) -> &'static str {
+    match (kind, is_of_sync_type(head, kind)) {
+        (Kind::Emergency, _) => "emergency",
+        (Kind::Reply, _) => "reply",
+        (Kind::Heartbeat, _) => "heartbeat",
+        (Kind::Tpdo1, false) => "TPDO1 of 254, 255",
+        (Kind::Tpdo1, true) => "TPDO1 of 1..240",
+        (Kind::Tpdo2, false) => "TPDO2 of 254, 255",
+        (Kind::Tpdo2, true) => "TPDO2 of 1..240",
+    }
+}
+
 fn is_request(head: &Head, frame: &Received) -> bool {
     let plain = !frame.extended && !frame.remote;
     plain && frame.length == 8 && frame.identifier == 0x600 + u32::from(head.node())
@@ -513,12 +560,24 @@ fn joined(before: &Head, after: &Head, kind: Kind) -> bool {
 }
 
 /// Whether a PDO would have joined had the reading been good.
-fn is_passed_over(before: &Head, call: impl Fn(&mut Head)) -> bool {
+fn is_passed_over(before: &Head, call: &Call) -> bool {
     if before.reading_good() || before.nmt_state() != State::Operational as u8 {
         return false;
     }
+    is_due(before, call, Kind::Tpdo1) || is_due(before, call, Kind::Tpdo2)
+}
+
+/// Whether a PDO joins at the call, were the reading good and its last frame sent.
+pub fn is_due(before: &Head, call: &Call, kind: Kind) -> bool {
     let mut copy = *before;
     copy.sample(0);
-    call(&mut copy);
-    copy.waits(Kind::Tpdo1) || copy.waits(Kind::Tpdo2)
+    while copy.waits(kind) {
+        copy.slot();
+    }
+    match call {
+        Call::Receive(frame) => _ = copy.receive(frame),
+        Call::Tick => copy.tick(),
+        _ => {}
+    }
+    copy.waits(kind)
 }

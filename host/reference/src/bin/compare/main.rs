@@ -7,6 +7,7 @@ mod cases;
 mod coverage;
 mod dictionary;
 mod driver;
+mod fixed;
 mod generator;
 mod rng;
 mod run;

@@ -30,6 +30,7 @@ const SCENARIOS: &[(u32, Scenario)] = &[
     (4, emergency_setup),
     (2, emergency_switch),
     (3, crowd),
+    (5, fixed_frames),
     (6, scaling_setup),
     (4, store),
     (6, malformed),
@@ -316,15 +317,11 @@ fn odd_request(generator: &mut Generator, head: &Head) {
 fn pdo_setup(generator: &mut Generator, head: &Head) {
     let node = head.node();
     let index = generator.rng.pick(&[0x1800, 0x1801]);
-    let identifier = generator.rng.between(0x181, 0x57F);
     let kind = generator
         .rng
         .pick(&[1, 1, 2, 3, 7, 20, 240, 254, 254, 255, 255]);
     let timer = generator.rng.pick(&[0, 1, 2, 5, 9, 30, 100]);
-    write_to(generator, node, (index, 1), 0x8000_0000 | identifier);
-    write_to(generator, node, (index, 2), kind);
-    write_to(generator, node, (index, 5), timer);
-    write_to(generator, node, (index, 1), identifier);
+    alter_pdo(generator, node, index, (kind, timer));
     good_sample(generator);
     generator.frame(nmt(0x01, node));
     if kind > 240 {
@@ -334,7 +331,16 @@ fn pdo_setup(generator: &mut Generator, head: &Head) {
         for _ in 0..generator.rng.between(1, 2 * kind + 1) {
             generator.frame(data_frame(0x080, &[]));
         }
+        good_sample(generator);
     }
+}
+
+fn alter_pdo(generator: &mut Generator, node: u8, index: u16, (kind, timer): (u32, u32)) {
+    let identifier = generator.rng.between(0x181, 0x57F);
+    write_to(generator, node, (index, 1), 0x8000_0000 | identifier);
+    write_to(generator, node, (index, 2), kind);
+    write_to(generator, node, (index, 5), timer);
+    write_to(generator, node, (index, 1), identifier);
 }
 
 /// A write to a PDO that is on: its own identifier, its timer.
@@ -431,7 +437,8 @@ fn crowd(generator: &mut Generator, head: &Head) {
         ((0x1800, 5), generator.rng.between(1, 6)),
         ((0x1800, 1), 0x181),
         ((0x1801, 1), 0x8000_0182),
-        ((0x1801, 2), 1),
+        ((0x1801, 2), generator.rng.pick(&[1, 1, 255])),
+        ((0x1801, 5), time),
         ((0x1801, 1), 0x182),
     ];
     for (place, value) in settings {
@@ -452,7 +459,59 @@ fn crowd(generator: &mut Generator, head: &Head) {
         0 => command(generator, head),
         1 => generator.call(Call::Missing),
         2 => repeat_pdo(generator, head),
-        _ => generator.drain(),
+        _ => take_back(generator, node),
+    }
+}
+
+/// Frames of SYNC types wait, while samples, gaps, SYNCs and writes come and go.
+fn fixed_frames(generator: &mut Generator, head: &Head) {
+    const MEANWHILE: &[(u32, Scenario)] = &[
+        (10, |generator, _| generator.frame(data_frame(0x080, &[]))),
+        (6, |generator, _| good_sample(generator)),
+        (4, missing),
+        (3, write_of_position),
+        (2, |generator, _| generator.ticks(2)),
+        (2, |generator, _| generator.call(Call::Slot)),
+        (1, read_one),
+    ];
+    let node = head.node();
+    generator.frame(nmt(0x80, node));
+    let operating = generator.rng.pick(&[0x0, 0x4, 0x4, 0xC]);
+    write_to(generator, node, (0x6000, 0), operating);
+    for index in [0x1800, 0x1801] {
+        let kind = generator.rng.pick(&[1, 1, 2, 3, 5, 254, 255]);
+        let timer = generator.rng.pick(&[0, 1, 2, 5, 9]);
+        alter_pdo(generator, node, index, (kind, timer));
+    }
+    good_sample(generator);
+    generator.frame(nmt(0x01, node));
+    for _ in 0..generator.rng.between(4, 24) {
+        generator.rng.weighted(MEANWHILE)(generator, head);
+    }
+    if generator.rng.chance(40) {
+        generator.call(Call::Missing);
+    }
+    take_back(generator, node);
+}
+
+/// A reset, leaving Operational or switching off; or else slots.
+fn take_back(generator: &mut Generator, node: u8) {
+    let command = generator.rng.pick(&[0x02, 0x80, 0x81, 0x82]);
+    let index = generator.rng.pick(&[0x1800, 0x1801]);
+    match generator.rng.between(0, 3) {
+        0 => generator.drain(),
+        1 => write_to(generator, node, (index, 1), 0x8000_0181),
+        _ => generator.frame(nmt(command, node)),
+    }
+}
+
+/// The position changes with it, mostly; the reply is left waiting.
+fn write_of_position(generator: &mut Generator, head: &Head) {
+    let index = generator.rng.pick(&[0x6000, 0x6002, 0x6003, 0x6005]);
+    let named = |entry: &&Entry| entry.index == index && entry.writable;
+    if let Some(entry) = ENTRIES.iter().find(named) {
+        let value = valid_value(&generator.rng, entry, head);
+        write(generator, head.node(), entry, value);
     }
 }
 
