@@ -10,7 +10,7 @@
  *   kept        frames of SYNC PDOs that were sent in a gap
  *   late        position frames that began in a gap; those of SYNC PDOs only if the emergency "missing" of the gap was sent before
  *   stale       position frames handed over that carry another position than the last sample taken; for SYNC PDOs than the last one
- *               taken before the last due SYNC, or that came without one
+ *               taken before the last due SYNC, or that came without one; in the order in which the host took samples and frames
  *   dropped     frames of SYNC PDOs that the host aborted, or that still waited for a slot at the end of a gap
  *   overtaken   transmissions that began while a frame handed over earlier was still pending
  *   lost        frames that the host aborted and that were no position frames

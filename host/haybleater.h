@@ -200,7 +200,8 @@ HAYBLEATER_CALL uint8_t haybleater_power_up(haybleater_head *head, haybleater_se
  * A frame was received. Refuses with HAYBLEATER_BAD_IDENTIFIER or HAYBLEATER_BAD_LENGTH, in every state, what no classical
  * frame can carry: the head is unchanged. These are ignored, with answer 0: 29-bit and remote frames, frames of other nodes or
  * lengths, SYNC outside of Operational, requests in Stopped or while a reply waits, and every frame in Initialising.
- * A SYNC takes the position of the last sample lent before it: it is to be lent soon, and before any later sample.
+ * A SYNC takes the position of the last sample lent before it: lend it soon. A later sample
+ * that is lent before it makes its position later (host/README.md, SYNC).
  */
 HAYBLEATER_CALL uint8_t haybleater_receive(haybleater_head *head, haybleater_received frame);
 

@@ -29,6 +29,7 @@ pub const BAD_NODE: u8 = 4;
 
 pub const BAD_NAME: u8 = 5;
 
+// The refusal, and the head that power-up leaves.
 pub fn power_up(setup: Setup) -> Answer
     ensures { λ r. ⌜ PowersUp (setup .node) (setup .identity) r ⌝ }
 {

@@ -35,7 +35,7 @@ positionOf h = numberIn (readsIn h 0x6004 0)
 abbrev pub anyWaits : Head → Bool
 anyWaits h = isFrame (slotAnswer h)
 
--- whether a missing sample would take the frame that a slot would send: a position frame of types 254 and 255
+-- whether a slot would send a position frame that a missing sample would take: one of types 254 and 255
 abbrev pub goesIfMissing : Head → Bool
 goesIfMissing h =
     let k = first (h .line) in

@@ -32,7 +32,7 @@ pub record Told (p : PowerUp) (cs : List Call) : Type 0 where
   -- neither the boot-up frame nor a kind
   pub none-waits : let h = after (powered p) cs in
       (anyWaits h ≡ false) ↔ ((isInitialising (h .core) ≡ false) × ((k : Kind) → waitsIn h k ≡ false))
-  -- a missing sample takes only a frame of types 254 and 255: the position frame that the next slot sends is one
+  -- exactly if the next slot sends a position frame that a missing sample would take
   pub goes-if-missing : let h = after (powered p) cs in
       (goesIfMissing h ≡ true) ↔ ((w : PdoNumber) × (first (waiting (h .line)) ≡ number (tpdo w)) × Withdrawal h (sample Missing) (tpdo w))
 

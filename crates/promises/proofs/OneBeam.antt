@@ -6,15 +6,18 @@ use mathlib.Core.Bool.{Bool, true, false, _||_, cond}
 use mathlib.Core.List.{List, [], _∷_, _++_, append-assoc}
 use borrow.Author.Tests.{eq-eqb, le-leb}
 use Rattle.cases.proofs.Cases.{neither, test, true-false}
+use Rattle.can.specs.declared.Frame.{Frame}
 use Rattle.position.specs.Position as formula
 use Rattle.parts.specs.declared.Sensor.{Sensor}
 use Rattle.parts.specs.declared.Sensor.the-variants.{Missing, Raw}
 use Rattle.promises.specs.States.{isInitialising, PdoNumber}
-use Rattle.promises.specs.Calls.{Call, receive, tick, sample, slot}
+use Rattle.promises.specs.WaitingLine.{tpdo}
+use Rattle.promises.specs.Calls.{Call, receive, tick, sample, slot, slotAnswer, frameIn}
 use Rattle.promises.specs.Histories.{after, PowerUp, powered}
+use Rattle.promises.specs.FiveSlots.{Sends}
 use Rattle.promises.specs.Gap.{howMany}
 use Rattle.promises.specs.Readings.{profileOf, sampleBy, lastSample}
-use Rattle.promises.specs.SyncFrames.{Belongs, itsPosition, isSyncFrame, isSample, samplesAndSyncs, SyncFrames}
+use Rattle.promises.specs.SyncFrames.{Belongs, itsPosition, positionFrame, isSyncFrame, isSample, samplesAndSyncs, SyncFrames}
 use Rattle.promises.proofs.SyncFrames.{belongs, carries-it, taken-while-good}
 
 -- ---- lists
@@ -93,29 +96,42 @@ module _ {p : PowerUp} {w : PdoNumber} (ps cs us : List Call) (b : Belongs p (ps
       append-cancel ps cs (us ++ b .sync ∷ b .since)
       (b .split ∙ ap (λ l. l ++ b .sync ∷ b .since) e ∙ append-assoc ps us (b .sync ∷ b .since))
 
-  given-so : samplesAndSyncs cs ≡ samplesAndSyncs us ++ b .sync ∷ samplesAndSyncs (b .since)
-  given-so = ap samplesAndSyncs split-so ∙ given-append us (b .sync ∷ b .since) ∙ ap (λ l. samplesAndSyncs us ++ l) first
+  given-so : (es : List Call) → samplesAndSyncs (cs ++ es) ≡ samplesAndSyncs us ++ b .sync ∷ samplesAndSyncs (b .since ++ es)
+  given-so es =
+      ap samplesAndSyncs (ap (λ l. l ++ es) split-so ∙ append-assoc us (b .sync ∷ b .since) es)
+      ∙ given-append us (b .sync ∷ b .since ++ es)
+      ∙ ap (λ l. samplesAndSyncs us ++ l) first
     where
-      first : samplesAndSyncs (b .sync ∷ b .since) ≡ b .sync ∷ samplesAndSyncs (b .since)
+      first : samplesAndSyncs (b .sync ∷ b .since ++ es) ≡ b .sync ∷ samplesAndSyncs (b .since ++ es)
       first = test (isSample (b .sync)) (λ y. rw y) (λ y. rw (y, is-sync))
 
   sample-so : lastSample (lastSample Missing ps) (samplesAndSyncs us) ≡ Raw (b .raw)
   sample-so =
       last-given us (lastSample Missing ps) ∙ sym (last-append ps us Missing) ∙ ap (lastSample Missing) (sym e) ∙ b .fixes .good
 
-pub equal : (p q : PowerUp) (ps qs cs ds : List Call) (v w : PdoNumber) (a : Belongs p (ps ++ cs) v) (b : Belongs q (qs ++ ds) w)
+positions-equal : (p q : PowerUp) (ps qs cs ds es fs : List Call) (v w : PdoNumber) (a : Belongs p (ps ++ cs) v) (b : Belongs q (qs ++ ds) w)
     → lastSample Missing ps ≡ lastSample Missing qs
-    → samplesAndSyncs cs ≡ samplesAndSyncs ds
+    → samplesAndSyncs (cs ++ es) ≡ samplesAndSyncs (ds ++ fs)
     → (us vs : List Call) → a .before ≡ ps ++ us → b .before ≡ qs ++ vs → howMany isSyncFrame us ≡ howMany isSyncFrame vs
     → profileOf (after (powered p) (a .before)) ≡ profileOf (after (powered q) (b .before))
     → itsPosition a ≡ itsPosition b
-equal p q ps qs cs ds v w a b s g us vs x y n r =
-    let same = same-before (samplesAndSyncs us) (samplesAndSyncs vs) (a .sync) (b .sync) (samplesAndSyncs (a .since)) (samplesAndSyncs (b .since)) (is-sync ps cs us a x) (is-sync qs ds vs b y)
-    (sym (given-so ps cs us a x) ∙ g ∙ given-so qs ds vs b y) (syncs-given us ∙ n ∙ sym (syncs-given vs)) in
+positions-equal p q ps qs cs ds es fs v w a b s g us vs x y n r =
+    let same = same-before (samplesAndSyncs us) (samplesAndSyncs vs) (a .sync) (b .sync) (samplesAndSyncs (a .since ++ es))
+    (samplesAndSyncs (b .since ++ fs)) (is-sync ps cs us a x) (is-sync qs ds vs b y)
+    (sym (given-so ps cs us a x es) ∙ g ∙ given-so qs ds vs b y fs) (syncs-given us ∙ n ∙ sym (syncs-given vs)) in
     let raws : Raw (a .raw) ≡ Raw (b .raw) =
     sym (sample-so ps cs us a x) ∙ ap₂ lastSample s same ∙ sample-so qs ds vs b y in
     let raw : a .raw ≡ b .raw = cc raws in
     ap₂ formula.position r raw
+
+-- so the bytes of the frames that carry them
+bytes-equal : (p q : PowerUp) (cs ds : List Call) (v w : PdoNumber) (a : Belongs p cs v) (b : Belongs q ds w) → itsPosition a ≡ itsPosition b
+    → let h = after (powered p) cs in let g = after (powered q) ds in
+    Sends h slot (tpdo v) → Sends g slot (tpdo w) → frameIn (slotAnswer h) .bytes ≡ frameIn (slotAnswer g) .bytes
+bytes-equal p q cs ds v w a b e s t =
+    ap (λ (f : Frame). f .bytes) (carries-it p v cs a s)
+    ∙ ap (λ x. positionFrame 0 x .bytes) e
+    ∙ sym (ap (λ (f : Frame). f .bytes) (carries-it q w ds b t))
 
 pub sync-frames : SyncFrames
 sync-frames =
@@ -123,5 +139,6 @@ sync-frames =
       belongs = λ p cs w. belongs p w cs;
       carries = λ p cs w b. carries-it p w cs b;
       taken-while-good = taken-while-good;
-      equal = equal;
+      equal = λ p q ps qs cs ds es fs v w a b s g us vs x y n r.
+          bytes-equal p q (ps ++ cs) (qs ++ ds) v w a b (positions-equal p q ps qs cs ds es fs v w a b s g us vs x y n r);
     }

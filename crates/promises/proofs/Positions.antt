@@ -1,5 +1,5 @@
 -- Proves `Positioned` of specs/Readings.antt: the position is 01's formula, after an
--- accepted preset it is the preset, and a position frame carries what 6004h reads.
+-- accepted preset it is the preset, and a position frame of types 254 and 255 carries what 6004h reads.
 use Prim.Native.Nat.{ℕ, _<_}
 use native.Mathlib.Omega.{arith}
 use lib.Dec.{eqb}

@@ -48,7 +48,7 @@ pub data Act : Type 0 where
   -- a service request gets its reply, and has its effect
   serve : Served → Act
 
--- the core with these, the last reply made and the positions fixed. Both stay after the frame was sent, and no frame shows them.
+-- the core with these, the last reply made and the positions fixed. Both stay after the frame was sent, and then no frame shows them.
 abbrev pub core : Core → Device → Nmt → Bool → Timers → Core
 core c d s a t = record { device = d; nmt = s; announced = a; timers = t; reply = c .reply; fixed = c .fixed }
 

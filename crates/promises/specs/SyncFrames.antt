@@ -93,17 +93,21 @@ pub record SyncFrames : Type 0 where
   -- and carries the position of the sample that was good at its last due SYNC.
   pub carries : (p : PowerUp) (cs : List Call) (w : PdoNumber) (b : Belongs p cs w) → let h = after (powered p) cs in
       Sends h slot (tpdo w) → frameIn (slotAnswer h) ≡ positionFrame (pdoOf h w .identifier) (itsPosition b)
-  -- No frame leaves with a position taken while the reading was missing.
+  -- No frame leaves with a position taken while the reading was missing. (These are the position frames. A reply of 6004h is blank
+  -- then: `blank` of specs/Readings.antt.)
   pub taken-while-good : (p : PowerUp) (cs : List Call) → let h = after (powered p) cs in
       isFrame (slotAnswer h) ≡ true → isPosition (frameIn (slotAnswer h)) ≡ true
       → (w : PdoNumber) × (x : ℕ) × Taken p cs w x × (frameIn (slotAnswer h) ≡ positionFrame (pdoOf h w .identifier) x)
-  -- Two heads given the same samples and SYNCs send equal positions for the same SYNC, whatever slots each had. Each has a past of its own,
-  -- ps and qs, which ends with the same sample. From then on the samples and SYNCs of cs and ds are the same, whatever slots
-  -- and other calls stand between them. The same SYNC is one with the same number of SYNCs before it; the settings
-  -- of the position are then equal.
-  pub equal : (p q : PowerUp) (ps qs cs ds : List Call) (v w : PdoNumber) (a : Belongs p (ps ++ cs) v) (b : Belongs q (qs ++ ds) w)
-      → lastSample Missing ps ≡ lastSample Missing qs
-      → samplesAndSyncs cs ≡ samplesAndSyncs ds
+  -- Two heads given the same samples and SYNCs send equal positions for the same SYNC, whatever slots each had. Each has a past of its own, ps
+  -- and qs, which ends with the same sample. From then on samples and SYNCs are the same, whatever slots and other calls stand between
+  -- them: cs and ds until each sends its frame, es and fs after that, so their slots may come at different times. The frames belong to the
+  -- same SYNC: as many SYNCs came before it. The settings of the position have to be equal at that SYNC.
+  pub equal : (p q : PowerUp) (ps qs cs ds es fs : List Call) (v w : PdoNumber) (a : Belongs p (ps ++ cs) v) (b : Belongs q (qs ++ ds) w)
+      → let h = after (powered p) (ps ++ cs) in let g = after (powered q) (qs ++ ds) in
+      lastSample Missing ps ≡ lastSample Missing qs
+      → samplesAndSyncs (cs ++ es) ≡ samplesAndSyncs (ds ++ fs)
       → (us vs : List Call) → a .before ≡ ps ++ us → b .before ≡ qs ++ vs → howMany isSyncFrame us ≡ howMany isSyncFrame vs
       → profileOf (after (powered p) (a .before)) ≡ profileOf (after (powered q) (b .before))
-      → itsPosition a ≡ itsPosition b
+      → Sends h slot (tpdo v)
+      → Sends g slot (tpdo w)
+      → frameIn (slotAnswer h) .bytes ≡ frameIn (slotAnswer g) .bytes

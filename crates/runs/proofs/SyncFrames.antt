@@ -1,4 +1,4 @@
--- Proves `SyncFrames` of specs/SyncFrames.antt by computation.
+-- Proves `FixedAtSync` of specs/SyncFrames.antt by computation.
 use Prim.Native.Nat.{_≤_}
 use native.Mathlib.Omega.{arith}
 use mathlib.Core.Path.{_≡_, refl}
@@ -45,6 +45,8 @@ fixed-at-sync =
       range = refl;
       step = refl;
       taken-back = (refl, refl, refl, refl, refl);
+      taken-back-missing = (refl, refl, refl);
+      given-alike = refl;
       each-slot = refl;
       one-slot = refl;
       first-head = first-head;

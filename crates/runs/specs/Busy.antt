@@ -53,7 +53,7 @@ pub record Busy : Type 0 where
   pub uninhibited : after node1 busyLine .core .timers .inhibit ≡ 0
   pub unrelieved : Unrelieved 1 (step (after node1 busyLine) (sample Missing)) busyMaster
   pub five : slots busyMaster ≡ 5
-  -- good was said last; from the fifth slot on it is missing
+  -- good was said last; by the fifth slot it is missing
   pub good : lastEmergency 1 (sent node1 busyLine) ≡ some (saysGood 1)
   pub told : lastEmergency 1 (sent node1 (busyLine ++ sample Missing ∷ busyMaster)) ≡ some (saysMissing 1)
   -- The frame of TPDO2, of type 1, waited at the missing sample and leaves, that of TPDO1 does not. Without the missing sample both leave.

@@ -6,14 +6,14 @@ use mathlib.Core.List.{List, [], _∷_, _++_}
 use Rattle.can.specs.declared.Frame.{Frame}
 use Rattle.can.specs.Number.{lowFirst}
 use Rattle.sdo.specs.Worked.{bytes}
-use Rattle.waiting.specs.Line.{sdoReply}
+use Rattle.waiting.specs.Line.{emergency, sdoReply}
 use Rattle.parts.specs.declared.Sensor.the-variants.{Missing, Raw}
 use Rattle.promises.specs.States.{two}
 use Rattle.promises.specs.WaitingLine.{frame}
 use Rattle.promises.specs.Calls.{Call, sample, slot}
 use Rattle.promises.specs.Histories.{after, sent, PowerUp, powered}
 use Rattle.promises.specs.Gap.{saysMissing}
-use Rattle.promises.specs.SyncFrames.{Belongs}
+use Rattle.promises.specs.SyncFrames.{Belongs, samplesAndSyncs}
 use Rattle.promises.specs.Node1.{node1, request, asks, writes, command, sync}
 use Rattle.runs.specs.Joining.{Leave, good, operating, off1, on1, off2, second}
 
@@ -47,7 +47,7 @@ scaled r = good ++ writes (bytes 0x2B 0x00 0x60 0x00 0x04 0 0 0) ++ sample (Raw 
 abbrev pub both : List Call
 both = good ++ off1 ++ writes (bytes 0x2F 0x00 0x18 0x02 1 0 0 0) ++ on1 ++ second ++ command 0x01 ∷ []
 
--- the same samples and SYNCs: a slot after each SYNC, or one at the end
+-- one head has a slot after each SYNC, the other one after the next sample
 abbrev pub often : List Call
 often = sync ∷ slot ∷ sample (Raw 9) ∷ sync ∷ []
 
@@ -65,7 +65,7 @@ pub record FixedAtSync : Type 0 where
   -- A due SYNC with a missing reading fixes nothing and withdraws nothing, and the frame leaves also after the gap.
   pub passed-over : Send running (sync ∷ sample Missing ∷ sync ∷ slot ∷ []) (shows2 7 ∷ [])
   pub found-again : Send running (sync ∷ sample Missing ∷ sync ∷ sample (Raw 9) ∷ slot ∷ []) (shows2 7 ∷ [])
-  -- A SYNC that is not due fixes nothing: TPDO2 of type 2, at the third SYNC and at the fourth.
+  -- A SYNC that is not due fixes nothing: TPDO2 of type 2, at the third SYNC; at the fourth it is due again.
   pub not-due : Send (good ++ second ++ operating) (sync ∷ sync ∷ sample (Raw 9) ∷ sync ∷ slot ∷ []) (shows2 7 ∷ [])
   pub due-again : Send (good ++ second ++ operating) (sync ∷ sync ∷ sample (Raw 9) ∷ sync ∷ sync ∷ slot ∷ []) (shows2 9 ∷ [])
   -- Each PDO has its own: TPDO1 of type 1 is fixed anew at the third SYNC, TPDO2 of type 2 is not.
@@ -81,7 +81,11 @@ pub record FixedAtSync : Type 0 where
       × Leave (running ++ sync ∷ []) (command 0x81 ∷ []) ([] ∷ [])
       × Leave (running ++ sync ∷ []) (command 0x82 ∷ []) ([] ∷ [])
       × Leave (running ++ sync ∷ []) off2 ((sdoReply ∷ []) ∷ [] ∷ [])
+  pub taken-back-missing : Leave (running ++ sync ∷ sample Missing ∷ []) (command 0x80 ∷ []) ((emergency ∷ []) ∷ [])
+      × Leave (running ++ sync ∷ sample Missing ∷ []) (command 0x02 ∷ []) ([] ∷ [])
+      × Leave (running ++ sync ∷ sample Missing ∷ []) (command 0x81 ∷ []) ([] ∷ [])
   -- Two heads given the same samples and SYNCs send equal positions for the same SYNC, the second.
+  pub given-alike : samplesAndSyncs (often ++ slot ∷ sample (Raw 11) ∷ []) ≡ samplesAndSyncs (seldom ++ slot ∷ [])
   pub each-slot : Send running (often ++ slot ∷ []) (shows2 7 ∷ shows2 9 ∷ [])
   pub one-slot : Send running (seldom ++ slot ∷ []) (shows2 9 ∷ [])
   pub first-head : (p : PowerUp) → powered p ≡ node1 → Belongs p (running ++ often) two

@@ -35,10 +35,11 @@ slotWay s k = cond (eqb (s .code) initialisingCode) 1 (cond (eqb k 0) 0 (cond (e
 abbrev pub stateFrame : ℕ → Nmt → Frame
 stateFrame node s = frame (0x700 + node) 1 (s .code ∷ [])
 
--- the frame of the kind that stands first
+-- a position frame
 abbrev pub pdoFrame : Pdo → (atSlot fixed : ℕ) → Frame
 pdoFrame p atSlot fixed = frame (p .identifier) 4 (lowFirst 4 (carried p atSlot fixed))
 
+-- the frame of the kind that stands first
 abbrev pub kindFrame : ℕ → Nmt → Settings → Reading → List ℕ → Fixed → ℕ → Frame
 kindFrame node s settings r reply x k =
     let present = position (settings .profile) (r .raw) in

@@ -90,17 +90,6 @@ pub fn written(event: bool, before: Pdo, after: Pdo, clock: Clock) -> Clock
     }
 }
 
-// The position that the frame carries: `fixed` at the SYNC, or the one at the slot.
-fn carried(pdo: Pdo, profile: Profile, raw: u32, fixed: u32) -> u32
-    requires { ⌜ ValidProfile profile ⌝ }
-    ensures { λ r. ⌜ r ≡ carriedBy pdo (position profile raw) fixed ⌝ }
-{
-    if is_synchronous(pdo) {
-        return fixed;
-    }
-    position::position_of(profile, raw)
-}
-
 pub fn frame(pdo: Pdo, profile: Profile, raw: u32, fixed: u32) -> Frame
     requires { ⌜ ValidProfile profile ⌝ }
     ensures { λ r. ⌜ r ≡ frameWith (pdo .identifier) 4 (lowFirst 4 (carriedBy pdo (position profile raw) fixed)) ⌝ }
@@ -111,4 +100,15 @@ pub fn frame(pdo: Pdo, profile: Profile, raw: u32, fixed: u32) -> Frame
         length: LENGTH,
         bytes: [low[0], low[1], low[2], low[3], 0, 0, 0, 0],
     }
+}
+
+// The position that the frame carries: `fixed` at the SYNC, or the one at the slot.
+fn carried(pdo: Pdo, profile: Profile, raw: u32, fixed: u32) -> u32
+    requires { ⌜ ValidProfile profile ⌝ }
+    ensures { λ r. ⌜ r ≡ carriedBy pdo (position profile raw) fixed ⌝ }
+{
+    if is_synchronous(pdo) {
+        return fixed;
+    }
+    position::position_of(profile, raw)
 }

@@ -45,7 +45,7 @@ pub record Worked : Type 0 where
   -- the one in the middle is withdrawn, the others keep their order
   pub middle : withdrawIn three heartbeat ≡ pad places (emergency ∷ tpdo1 ∷ [])
   pub not-there : withdrawIn three sdoReply ≡ three
-  -- a missing sample takes both PDOs
+  -- a missing sample takes both PDOs, if both are of types 254 and 255
   pub missing : withdrawsIn all (tpdo1 ∷ tpdo2 ∷ []) ≡ pad places (heartbeat ∷ sdoReply ∷ emergency ∷ [])
   -- entering Stopped takes all but the heartbeat
   pub stopped : withdrawsIn all (emergency ∷ sdoReply ∷ tpdo1 ∷ tpdo2 ∷ []) ≡ pad places (heartbeat ∷ [])
