@@ -58,6 +58,7 @@ pub mod Clocked
 pub mod Moments
 pub mod PassedOver
 pub mod SyncFrames
+pub mod SyncSteps
 pub mod OneBeam
 pub mod Worked
 pub mod Parameters

@@ -216,4 +216,5 @@ moments-so p cs =
       written = is-written h;
       entered = is-entry h;
       synchronised = is-sync h;
+      its-settings = λ w. refl;
     }

@@ -1,4 +1,4 @@
--- Two heads given the same samples and SYNCs send equal positions for the same SYNC.
+-- Proves `equal` of specs/SyncFrames.antt, two heads given the same samples and SYNCs, and with it `SyncFrames`.
 use Prim.Native.Nat.{ℕ, suc}
 use native.Mathlib.Omega.{arith}
 use mathlib.Core.Path.{_≡_, refl, sym, ap, ap₂, _∙_}
@@ -19,6 +19,7 @@ use Rattle.promises.specs.Gap.{howMany}
 use Rattle.promises.specs.Readings.{profileOf, sampleBy, lastSample}
 use Rattle.promises.specs.SyncFrames.{Belongs, itsPosition, positionFrame, isSyncFrame, isSample, samplesAndSyncs, SyncFrames}
 use Rattle.promises.proofs.SyncFrames.{belongs, carries-it, taken-while-good}
+use Rattle.promises.proofs.SyncSteps.{stays-on, fixed-anew, unmoved-by}
 
 -- ---- lists
 append-cancel : (xs ys zs : List Call) → xs ++ ys ≡ xs ++ zs → ys ≡ zs
@@ -138,6 +139,9 @@ sync-frames =
     record {
       belongs = λ p cs w. belongs p w cs;
       carries = λ p cs w b. carries-it p w cs b;
+      stays = stays-on;
+      anew = fixed-anew;
+      unmoved = unmoved-by;
       taken-while-good = taken-while-good;
       equal = λ p q ps qs cs ds es fs v w a b s g us vs x y n r.
           bytes-equal p q (ps ++ cs) (qs ++ ds) v w a b (positions-equal p q ps qs cs ds es fs v w a b s g us vs x y n r);

@@ -1,9 +1,9 @@
--- Proves `SyncFrames` of specs/SyncFrames.antt, but for two heads: a frame of a synchronous PDO belongs to its last due SYNC.
+-- Proves `belongs`, `carries` and `taken-while-good` of specs/SyncFrames.antt: a frame of a synchronous PDO belongs to its last due SYNC.
 use Prim.Native.Nat.{ℕ}
 use lib.Dec.{ltb}
 use mathlib.Core.Path.{_≡_, refl, sym, ap, subst, _∙_}
 use mathlib.Core.Logic.{_⊎_, inl, inr}
-use mathlib.Core.Bool.{Bool, true, false, _&&_}
+use mathlib.Core.Bool.{Bool, true, false}
 use mathlib.Core.List.{List, [], _∷_, _++_, append-assoc, append-nil}
 use Rattle.cases.specs.Tests.{within}
 use Rattle.cases.proofs.Cases.{by, both, test, true-false}
@@ -74,13 +74,13 @@ sync-cause h f sync x e = x
 sync-cause h f (serve s) x e = true-false (sym e)
 
 module _ (p : PowerUp) (cs : List Call) where
-  abbrev h : Head
+  abbrev pub h : Head
   h = after (powered p) cs
 
-  abbrev c : Core
+  abbrev pub c : Core
   c = h .core
 
-  v : Valid h
+  pub v : Valid h
   v = valid-after (powered p) cs (valid-powered p)
 
   kept : Kept c (countsAfter p cs)
@@ -95,17 +95,17 @@ module _ (p : PowerUp) (cs : List Call) where
       ap (λ (x : Reading). formula.position (c .device .settings .profile) (x .raw)) (tells p cs .reading-is ∙ ap readingOf e)
 
   module _ (x : Call) (w : PdoNumber) where
-    abbrev later : ℕ
+    abbrev pub later : ℕ
     later = fixedFor (step h x .core .fixed) w
 
     later-so : later ≡ fixedFor (acted c (meant h x) .fixed) w
     later-so = ap (λ (d : Core). fixedFor (d .fixed) w) (core-step h x)
 
     -- it does, or what was fixed stays
-    abbrev Fixed : Type 0
+    abbrev pub Fixed : Type 0
     Fixed = (r : ℕ) × Fixes p cs x w r × (later ≡ positionThen p cs r)
 
-    abbrev Stays : Type 0
+    abbrev pub Stays : Type 0
     Stays = ((r : ℕ) → Fixes p cs x w r → ⊥) × (later ≡ fixedFor (c .fixed) w)
 
     no-sync : synchronises (meant h x) ≡ false → Stays
@@ -206,7 +206,7 @@ module _ (c : Core) (w : PdoNumber) (is-on : on (pdo (communication c) w .identi
       subst Same (ap (λ (u : Served). u .effect) (sym (f .1 .1 .1)))
       (type-told o q _ (dueIn (c .device) o (f .1 .0) q) (told-in (c .device) o (f .1 .0) q))
 
-type-step : (h : Head) → Valid h → (x : Call) (w : PdoNumber) → waits h (tpdo w) ≡ true → waits (step h x) (tpdo w) ≡ true
+pub type-step : (h : Head) → Valid h → (x : Call) (w : PdoNumber) → waits h (tpdo w) ≡ true → waits (step h x) (tpdo w) ≡ true
     → pdoOf (step h x) w .transmission ≡ pdoOf h w .transmission
 type-step h v x w y z =
     let e = core-step h x in
@@ -253,7 +253,7 @@ module _ (p : PowerUp) (w : PdoNumber) where
       unfixed (inr y) = y .1
 
   -- at its SYNC the position was that of the sample
-  fixed-then : {cs : List Call} {x : Call} {r : ℕ} → Fixes p cs x w r
+  pub fixed-then : {cs : List Call} {x : Call} {r : ℕ} → Fixes p cs x w r
       → fixedFor (step (after (powered p) cs) x .core .fixed) w ≡ positionThen p cs r
   fixed-then {cs} {x} {r} y = found (fixed-or-not p cs x w)
     where

@@ -170,3 +170,5 @@ pub record Moments (p : PowerUp) (cs : List Call) : Type 0 where
   pub entered : let h = after (powered p) cs in (f : Received)
       → (entersOperational h (receive f) ≡ true) ↔ (Commands h f (toEnter operational) × (isIn operational (h .core) ≡ false))
   pub synchronised : let h = after (powered p) cs in (f : Received) → (synchronises h (receive f) ≡ true) ↔ Synchronises h f
+  -- A PDO's settings are those that its entries read (specs/Parameters.antt).
+  pub its-settings : let h = after (powered p) cs in (w : PdoNumber) → pdoOf h w ≡ pdo (communication (h .core)) w

@@ -5,22 +5,24 @@ use lib.Dec.{eqb, leb}
 use mathlib.Core.Path.{_≡_}
 use mathlib.Core.Bool.{Bool, true, false, not, _&&_, _||_, cond}
 use mathlib.Core.List.{List, [], _∷_, _++_}
+use mathlib.Core.Option.{some}
 use Rattle.can.specs.declared.Frame.{Frame}
 use Rattle.can.specs.declared.Received.{Received}
 use Rattle.can.specs.Number.{lowFirst}
 use Rattle.position.specs.Position as formula
 use Rattle.dictionary.specs.Accepted.{on}
+use Rattle.dictionary.specs.declared.read.Shown.the-variants.{Number}
 use Rattle.parts.specs.declared.Sensor.the-variants.{Missing, Raw}
-use Rattle.promises.specs.States.{PdoNumber}
+use Rattle.promises.specs.States.{operational, isIn, PdoNumber}
 use Rattle.promises.specs.Timers.{OnEvents, OnSyncs}
-use Rattle.promises.specs.WaitingLine.{tpdo}
+use Rattle.promises.specs.WaitingLine.{tpdo, frameOf}
 use Rattle.promises.specs.Calls.{Call, receive, tick, sample, slot, step, slotAnswer, isFrame, frameIn}
 use Rattle.promises.specs.Valid.{waits}
 use Rattle.promises.specs.Meant.{Synchronises}
 use Rattle.promises.specs.Histories.{after, PowerUp, powered}
 use Rattle.promises.specs.FiveSlots.{Sends, WaitsThrough}
 use Rattle.promises.specs.Gap.{howMany, isPosition}
-use Rattle.promises.specs.Readings.{profileOf, lastSample}
+use Rattle.promises.specs.Readings.{readsIn, profileOf, lastSample}
 use Rattle.promises.specs.Moments.{pdoOf, EachOf, countsAfter}
 
 -- The position of a sample r, with the settings that the head has after the calls.
@@ -93,6 +95,22 @@ pub record SyncFrames : Type 0 where
   -- and carries the position of the sample that was good at its last due SYNC.
   pub carries : (p : PowerUp) (cs : List Call) (w : PdoNumber) (b : Belongs p cs w) → let h = after (powered p) cs in
       Sends h slot (tpdo w) → frameIn (slotAnswer h) ≡ positionFrame (pdoOf h w .identifier) (itsPosition b)
+  -- Call by call, from what 6004h reads. A missing sample no longer takes such a frame back: no call but a slot does, while the PDO stays
+  -- switched on in Operational.
+  pub stays : (p : PowerUp) (cs : List Call) (c : Call) (w : PdoNumber) → let h = after (powered p) cs in
+      OnSyncs (pdoOf h w) → waits h (tpdo w) ≡ true → (c ≡ slot → ⊥) → isIn operational (step h c .core) ≡ true
+      → on (pdoOf (step h c) w .identifier) ≡ true → waits (step h c) (tpdo w) ≡ true
+  -- A due SYNC, whether the frame waits or not, fixes the position that 6004h reads then,
+  pub anew : (p : PowerUp) (cs : List Call) (f : Received) (w : PdoNumber) (x : ℕ) → let h = after (powered p) cs in
+      Synchronises h f → on (pdoOf h w .identifier) ≡ true → OnSyncs (pdoOf h w)
+      → EachOf (pdoOf h w .transmission) (countsAfter p cs .syncs w)
+      → readsIn h 0x6004 0 ≡ some (Number x)
+      → frameOf (step h (receive f) .core) (tpdo w) ≡ positionFrame (pdoOf h w .identifier) x
+  -- and no other call, a SYNC that is not due included, changes what a waiting frame carries.
+  pub unmoved : (p : PowerUp) (cs : List Call) (c : Call) (w : PdoNumber) → let h = after (powered p) cs in
+      OnSyncs (pdoOf h w) → waits h (tpdo w) ≡ true → waits (step h c) (tpdo w) ≡ true
+      → ((f : Received) → c ≡ receive f → Synchronises h f → EachOf (pdoOf h w .transmission) (countsAfter p cs .syncs w) → ⊥)
+      → frameOf (step h c .core) (tpdo w) .bytes ≡ frameOf (h .core) (tpdo w) .bytes
   -- No frame leaves with a position taken while the reading was missing. (These are the position frames. A reply of 6004h is blank
   -- then: `blank` of specs/Readings.antt.)
   pub taken-while-good : (p : PowerUp) (cs : List Call) → let h = after (powered p) cs in
