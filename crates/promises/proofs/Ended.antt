@@ -1,9 +1,8 @@
 -- Each withdrawal ends the condition of the kind that it takes.
 use Prim.Native.Nat.{ℕ}
-use mathlib.Core.Path.{_≡_, refl, sym, ap, _∙_}
-use mathlib.Core.Bool.{true, false, not, _&&_, _||_, and-false}
+use mathlib.Core.Path.{_≡_, refl, ap, _∙_}
+use mathlib.Core.Bool.{false, not, _&&_, _||_, and-false}
 use borrow.Author.Tests.{eq-eqb, le-ltb}
-use Rattle.cases.proofs.Cases.{true-false}
 use Rattle.can.specs.declared.Received.{Received}
 use Rattle.position.specs.Profile.{highestRaw}
 use Rattle.entries.specs.Keys.{heartbeatKey, emergencyKey}
@@ -12,7 +11,7 @@ use Rattle.sdo.specs.Reply.{confirmed}
 use Rattle.parts.specs.declared.Core.{Core}
 use Rattle.parts.specs.declared.Head.{Head}
 use Rattle.parts.specs.declared.Sensor.the-variants.{Missing, Raw}
-use Rattle.promises.specs.States.{CommandedState, operational, stopped, preOperational, state, isIn}
+use Rattle.promises.specs.States.{operational, stopped, state, isIn}
 use Rattle.promises.specs.States.{isInitialising, isLive, good, communication, pdo}
 use Rattle.promises.specs.Timers.{synchronous}
 use Rattle.promises.specs.WaitingLine.{Kind, emergency, sdoReply, heartbeat, tpdo, mayStay}
@@ -22,6 +21,7 @@ use Rattle.promises.specs.Meant.{Writes}
 use Rattle.promises.specs.Valid.{Valid}
 use Rattle.promises.specs.Withdrawals.{identifierKey, Withdrawal, resets, stops, leaves, loses}
 use Rattle.promises.specs.Withdrawals.{switches-off, beats-no-more, silenced, found, lost}
+use Rattle.promises.proofs.States.{elsewhere}
 use Rattle.promises.proofs.Slots.{no-stay}
 use Rattle.promises.proofs.Meant.{core-step, enters, resets as reset-law}
 use Rattle.promises.proofs.Causes.{writes}
@@ -38,12 +38,6 @@ module _ (h : Head) (v : Valid h) where
   stopped-stay c sdoReply e o = rw e
   stopped-stay c heartbeat e o = absurd (o refl)
   stopped-stay c (tpdo w) e o = rw e
-
-  elsewhere : (c d : Core) (g : CommandedState) → isIn operational c ≡ true → isIn g c ≡ false → d .nmt ≡ state g
-      → isIn operational d ≡ false
-  elsewhere c d operational y n e = true-false (sym y ∙ n)
-  elsewhere c d stopped y n e = rw e
-  elsewhere c d preOperational y n e = rw e
 
   pub ended : {x : Call} {k : Kind} → Withdrawal h x k → mayStay (step h x .core) k ≡ false
   ended (resets {f} {r} {k} m) = no-stay (step h (receive f) .core) k (reset-law h f r m .initialising)

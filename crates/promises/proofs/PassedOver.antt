@@ -86,7 +86,7 @@ module _ (p : PowerUp) (cs : List Call) where
   v : Valid h
   v = valid-after (powered p) cs (valid-powered p)
 
-  is-good : good (h .core) ≡ readingOf (lastSample Missing cs) .good
+  pub is-good : good (h .core) ≡ readingOf (lastSample Missing cs) .good
   is-good = ap (λ (r : Reading). r .good) (tells p cs .reading-is)
 
   begins : {c : Call} {w : PdoNumber} → Due h n c w → Ready h w → Begins h n c (tpdo w)

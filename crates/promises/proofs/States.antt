@@ -4,7 +4,8 @@ use mathlib.Core.Bool.{Bool, true, false}
 use borrow.Author.Tests.{eqb-true}
 use Rattle.cases.proofs.Cases.{true-false}
 use Rattle.parts.specs.declared.Core.{Core}
-use Rattle.promises.specs.States.{initialisingCode, operational, stopped, preOperational, isIn, isInitialising, isLive, atRest}
+use Rattle.promises.specs.States.{CommandedState, operational, stopped, preOperational, initialisingCode, state, isIn, isInitialising}
+use Rattle.promises.specs.States.{isLive, atRest}
 use Rattle.promises.specs.WaitingLine.{emergency, sdoReply, heartbeat, tpdo}
 use Rattle.promises.specs.Acts.{Act, nothing, enter, reset, boot, idle, send, take, lose, time, sync, serve, acted}
 use Rattle.promises.specs.Valid.{isNamed}
@@ -34,6 +35,13 @@ not-operational c i = rw (eqb-true (c .nmt .code) initialisingCode i)
 
 pub not-live : (c : Core) → isInitialising c ≡ true → isLive c ≡ false
 not-live c i = rw (eqb-true (c .nmt .code) initialisingCode i)
+
+-- a state that is entered from Operational is another
+pub elsewhere : (c d : Core) (g : CommandedState) → isIn operational c ≡ true → isIn g c ≡ false → d .nmt ≡ state g
+    → isIn operational d ≡ false
+elsewhere c d operational y n e = true-false (sym y ∙ n)
+elsewhere c d stopped y n e = rw e
+elsewhere c d preOperational y n e = rw e
 
 abbrev pub Fresh : Core → Type 0
 Fresh c = isInitialising c ≡ true → (c .announced ≡ true) × (c .timers ≡ atRest)

@@ -56,7 +56,7 @@ use Rattle.promises.proofs.Readings.{tells}
 use Rattle.promises.proofs.Remainders.{its-turn, in-turn}
 use Rattle.promises.proofs.Tested.{entered, synchronised}
 use Rattle.promises.proofs.Moments.{Kept, counts-kept, moments-so}
-use Rattle.promises.proofs.PassedOver.{a-sample}
+use Rattle.promises.proofs.PassedOver.{a-sample, is-good}
 use Rattle.promises.proofs.Positions.{carries}
 
 -- ---- which call fixes a position
@@ -85,10 +85,6 @@ module _ (p : PowerUp) (cs : List Call) where
 
   kept : Kept c (countsAfter p cs)
   kept = counts-kept p cs
-
-  -- the present reading is that of the last sample
-  is-good : good c ≡ readingOf (lastSample Missing cs) .good
-  is-good = ap (λ (r : Reading). r .good) (tells p cs .reading-is)
 
   present-so : {r : ℕ} → lastSample Missing cs ≡ Raw r → present c ≡ positionThen p cs r
   present-so e =
@@ -131,7 +127,7 @@ module _ (p : PowerUp) (cs : List Call) where
         let u = both due (mayJoin c (tpdo w)) e in
         let d = both (synchronous its) (completes (its .transmission) (clock (c .timers) w .syncs)) (u .0) in
         let may = shows c w (u .1) in
-        let r = a-sample (lastSample Missing cs) (sym is-good ∙ may .is-good) in (
+        let r = a-sample (lastSample Missing cs) (sym (is-good p cs) ∙ may .is-good) in (
           r .0,
           record {
             frame = f;
@@ -150,7 +146,7 @@ module _ (p : PowerUp) (cs : List Call) where
       λ r y.
           let t = on-syncs its (y .type) in
           let turn : due ≡ true = rw t (in-turn _ _ _ (kept .syncs w (s .operational) (y .switched-on) t) (y .due)) in
-          let may : mayJoin c (tpdo w) ≡ true = rw (s .operational, y .switched-on) (is-good ∙ ap (λ z. readingOf z .good) (y .good)) in
+          let may : mayJoin c (tpdo w) ≡ true = rw (s .operational, y .switched-on) (is-good p cs ∙ ap (λ z. readingOf z .good) (y .good)) in
           true-false (sym (rw (turn, may)) ∙ e),
       fixed-so ∙ fixed-by c w ∙ rw e,
     )

@@ -17,12 +17,12 @@ use Rattle.dictionary.specs.declared.read.Shown.the-variants.{Blank, Number}
 use Rattle.dictionary.specs.Accepted.{on}
 use Rattle.dictionary.specs.Writes.{written}
 use Rattle.sdo.specs.Reply.{confirmed}
+use Rattle.parts.specs.declared.Nmt.{Nmt}
 use Rattle.parts.specs.declared.Core.{Core}
 use Rattle.parts.specs.declared.Head.{Head}
 use Rattle.parts.specs.declared.Sensor.{Sensor}
 use Rattle.parts.specs.declared.Sensor.the-variants.{Missing, Raw}
-use Rattle.promises.specs.States.{CommandedState, stopped, preOperational, state, operational, isIn, communication, PdoNumber, pdo}
-use Rattle.promises.specs.States.{fixedFor}
+use Rattle.promises.specs.States.{operational, stopped, code, isIn, communication, PdoNumber, pdo, fixedFor}
 use Rattle.promises.specs.Timers.{synchronous, OnSyncs}
 use Rattle.promises.specs.WaitingLine.{tpdo, frameOf}
 use Rattle.promises.specs.Acts.{sync, serve, acted}
@@ -35,7 +35,7 @@ use Rattle.promises.specs.FiveSlots.{Sends}
 use Rattle.promises.specs.Readings.{lastSample, readsIn, shownPosition, profileOf}
 use Rattle.promises.specs.Moments.{pdoOf, EachOf, countsAfter}
 use Rattle.promises.specs.SyncFrames.{positionThen, Fixes, positionFrame}
-use Rattle.promises.proofs.States.{not-operational}
+use Rattle.promises.proofs.States.{not-operational, elsewhere}
 use Rattle.promises.proofs.Types.{on-syncs, no-both}
 use Rattle.promises.proofs.Conditions.{identifier-written}
 use Rattle.promises.proofs.Meant.{core-step, enters, resets as reset-law}
@@ -66,19 +66,10 @@ stays-on p cs c w t y q o i =
     h : Head
     h = after (powered p) cs
 
-    elsewhere : (d : Core) (g : CommandedState) → isIn operational (h .core) ≡ true → isIn g (h .core) ≡ false → d .nmt ≡ state g
-        → isIn operational d ≡ false
-    elsewhere d operational y n e = true-false (sym y ∙ n)
-    elsewhere d stopped y n e = rw e
-    elsewhere d preOperational y n e = rw e
-
     taken : (c : Call) → Withdrawal h c (tpdo w) → isIn operational (step h c .core) ≡ true → on (pdoOf (step h c) w .identifier) ≡ true → ⊥
     taken (receive f) (resets {r = r} m) o i = true-false (sym o ∙ not-operational (step h (receive f) .core) (reset-law h f r m .initialising))
-    taken (receive f) (stops m n) o i = true-false (sym o ∙ elsewhere-stopped (step h (receive f) .core) (enters h f stopped m))
-      where
-        elsewhere-stopped : (d : Core) → d .nmt ≡ state stopped → isIn operational d ≡ false
-        elsewhere-stopped d e = rw e
-    taken (receive f) (leaves {g = g} m y n) o i = true-false (sym o ∙ elsewhere (step h (receive f) .core) g y n (enters h f g m))
+    taken (receive f) (stops m n) o i = true-false (sym o ∙ ap (λ (s : Nmt). eqb (s .code) (code operational)) (enters h f stopped m))
+    taken (receive f) (leaves {g = g} m y n) o i = true-false (sym o ∙ elsewhere (h .core) (step h (receive f) .core) g y n (enters h f g m))
     taken (receive f) (switches-off {v = j} x off) o i =
         true-false (sym i ∙ ap (λ (d : Core). on (pdo (communication d) w .identifier)) (writes h f (v p cs) x)
         ∙ ap on (identifier-after (h .core) (f .bytes) (identifierKey w) j w) ∙ rw (eq-eqb (identifierKey w) (identifierKey w) refl, off))
