@@ -1,8 +1,11 @@
 """Where the data sheet and the head differ: each function yields one line for each difference."""
-import re
+import sys
 
-from head import VALUE, WRITE, WRITTEN, abort_code, upload
+from head import ROOT, VALUE, WRITE, WRITTEN, abort_code, upload
 from sheet import ARRAY, NAME, VAR, Fault, at_node
+
+sys.path.append(str(ROOT / "tools"))
+from entry_list import CODE as LIST, Refused, code_rows, name
 
 NODES = (1, 127)
 
@@ -43,38 +46,34 @@ TPDO1, TPDO2 = 0x180, 0x280
 FIRST, SECOND = ("sent", TPDO1), ("sent", TPDO2)
 STARTED, SYNC, MOVED, AGAIN, LOST = (SAMPLE, ("start",)), ("sync",), ("moved", 200), ("moved", 300), ("lost",)
 
-TABLE_LINE = re.compile(r" +entry 0x([0-9A-F]{4}) ([0-9]+) (U8|U16|U32|S32|name) (ro|rw) .*")
-
-# The names: CiA 301 calls their access const, which the proved table and the head do not tell from ro
+# The names: CiA 301 calls their access const, which the proved list and the head do not tell from ro
 CONSTANT = {0x1008_00, 0x1009_00, 0x100A_00}
 TRANSFERS = "The names are read by segmented upload, all other entries by expedited upload. Every write is an expedited download."
 
 
-def table(entries, specification):
-    """The lines of the proved table have index, sub-index, type and access of the data sheet's entries."""
-    lines = [line for line in specification.splitlines() if line.lstrip().startswith("entry 0x")]
-    if not lines:
-        yield "the proved table has no line of an entry"
+def proved_list(entries, text):
+    """The lines of the proved list have the data sheet's entries: index, sub-index, type, access, limits and numbers that stay as they are."""
+    try:
+        proved = {row.key: row for row in code_rows(text)}
+    except Refused as refusal:
+        yield str(refusal)
         return
-    proved = {}
-    for line in lines:
-        found = TABLE_LINE.fullmatch(line)
-        if found is None:
-            yield f"a line of the proved table cannot be read: {line.strip()}"
-            continue
-        key = int(found[1], 16) << 8 | int(found[2])
-        if key in proved:
-            yield f"{name(key)} stands twice in the proved table"
-        proved[key] = (found[3], found[4])
-    listed = {entry.key: (entry.type, "ro" if entry.access == "const" else entry.access) for entry in entries}
-    for key in sorted(proved.keys() | listed.keys()):
-        if proved.get(key) != listed.get(key):
-            yield f"{name(key)}: {words(listed.get(key))} in the data sheet, {words(proved.get(key))} in the proved table"
+    by_key = {entry.key: entry for entry in entries}
+    for key in sorted(proved.keys() | by_key.keys()):
+        entry, row = by_key.get(key), proved.get(key)
+        own = entry and (entry.type, "ro" if entry.access == "const" else entry.access)
+        due = row and (row.type, row.access)
+        if own != due:
+            yield f"{name(key)}: {words(own)} in the data sheet, {words(due)} in the proved list"
+        elif row.accepted[0] == "Between" and row.accepted[1:] != (entry.low, entry.high):
+            yield f"{name(key)}: limits {entry.low} and {entry.high} in the data sheet, {row.accepted[1]} and {row.accepted[2]} in the proved list"
+        elif row.source[0] == "Fixed" and row.blank == ("Never",) and fixed(entry) != row.source[1]:
+            yield f"{name(key)}: {fixed(entry)} in the data sheet, {row.source[1]} in the proved list"
 
 
-def name(key):
-    """An entry as 01 names it: 1800-5."""
-    return f"{key >> 8:04X}-{key & 0xFF}"
+def fixed(entry):
+    """The default of one node, None if there is none; that it is the same in every node, `reads` sees."""
+    return None if entry.default is None else at_node(entry.default, NODES[0], f"[{entry.section}] DefaultValue")
 
 
 def number_of(reply):
@@ -339,13 +338,13 @@ def mapping(entries, head, node):
         yield f"PDOMapping is not 1 of exactly what node {node} maps"
 
 
-def differences(objects, comments, head, twin, specification):
+def differences(objects, comments, head, twin, listed):
     """All of them. The twin is a head that differs in its serial number and its names."""
     entries = [entry for _, each in objects.values() for entry in each]
     strangers = comments.names() - {entry.section for entry in entries if entry.access == "rw"}
     if strangers:
         raise Fault(f"[Comments] speak of writes to {', '.join(sorted(strangers))}")
-    yield from table(entries, specification)
+    yield from proved_list(entries, listed)
     yield from shapes(objects)
     yield from flags(entries)
     yield from constants(entries)

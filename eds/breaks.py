@@ -69,6 +69,7 @@ SHEET = [
      "SupportedObjects=1\n1=0x2000\n\n[2000]\nParameterName=Gap\n" + VARIABLE, "node 1 has no such index"),
     ("ManufacturerObjects", "SupportedObjects=0", "SupportedObjects=0\n\n[2000]\nParameterName=Gap", "not used: [2000]"),
     ("1000", "DefaultValue=0x00080196", "DefaultValue=0x00020196", "1000-0: DefaultValue"),
+    ("1000", "DefaultValue=0x00080196", "DefaultValue=0x00020196", "1000-0: 131478 in the data sheet, 524694 in the proved list"),
     ("1000", "ParameterName=Device type", "ParameterName=Error register", "two objects have one name"),
     ("1003sub0", "ObjFlags=0x1\n", "", "1003-0: ObjFlags"),
     ("1003sub0", "PDOMapping=0", "LowLimit=0\nHighLimit=0\nPDOMapping=0", "1003-0 needs no limits"),
@@ -104,6 +105,7 @@ SHEET = [
     ("1801sub1", "$NODEID+0x280", "$NODEID+0x281", "1801-1: DefaultValue"),
     ("1A00sub1", "DefaultValue=0x60040020", "DefaultValue=0x60030020", "1A00-1: DefaultValue"),
     ("6002", "LowLimit=1000", "LowLimit=999", "6002-0: node 1 answers a write of 0x3e7"),
+    ("6002", "LowLimit=1000", "LowLimit=999", "6002-0: limits 999 and 1000000 in the data sheet, 1000 and 1000000"),
     ("6002", "HighLimit=1000000", "HighLimit=999999", "6002-0: node 1 answers a write of 0xf4240"),
     ("6003", "HighLimit=1048575", "HighLimit=1048576", "6003-0: node 1 answers a write of 0x100000"),
     ("6003", "PDOMapping=0", "PDOMapping=1", "PDOMapping is not 1"),
@@ -177,21 +179,30 @@ HEAD = [
     (("write", 0x1011_01, 4, 0x64616F6D), reply("80 11 10 01 30 00 09 06"), "1011-1: node 1 answers a write of 0x64616f6d"),
 ]
 
-# Text of the proved table, what stands there instead, words of the refusal
-TABLE = [
-    ("entry 0x6509 0 S32 ro", "entry 0x6509 0 U32 ro", "6509-0: S32 ro in the data sheet, U32 ro in the proved table"),
-    ("entry 0x1005 0 U32 ro", "entry 0x1005 0 U32 rw", "1005-0: U32 ro in the data sheet, U32 rw"),
-    ("entry 0x1017 0 U16", "entry 0x1017 0 U32", "1017-0: U16 rw in the data sheet, U32 rw"),
-    ("entry 0x6504 0", "entry 0x6505 0", "6505-0: nothing in the data sheet"),
-    ("entry 0x6504 0", "line 0x6504 0", "6504-0: U16 ro in the data sheet, nothing"),
-    ("entry 0x6504 0", "entry 0x6503 0", "6503-0 stands twice in the proved table"),
-    ("entry 0x6504 0 U16", "entry 0x6504 0 U64", "cannot be read"),
-    ("entry 0x1008 0 name", "entry 0x1008 0 U32", "1008-0: name ro in the data sheet, U32 ro in the proved table"),
-    ("entry 0x1009 0 name ro", "entry 0x1009 0 name rw", "1009-0: name ro in the data sheet, name rw"),
-    ("entry 0x100A 0", "entry 0x100B 0", "100B-0: nothing in the data sheet"),
+# Text of the proved list, what stands there instead, words of the refusal
+LIST = [
+    ("0x6509_00 => Row(k, S32, RO", "0x6509_00 => Row(k, U32, RO", "6509-0: S32 ro in the data sheet, U32 ro in the proved list"),
+    ("0x1005_00 => Row(k, U32, RO", "0x1005_00 => Row(k, U32, RW", "1005-0: U32 ro in the data sheet, U32 rw"),
+    ("0x1017_00 => Row(k, U16", "0x1017_00 => Row(k, U32", "1017-0: U16 rw in the data sheet, U32 rw"),
+    ("0x6504_00 =>", "0x6505_00 =>", "6505-0: nothing in the data sheet"),
+    ("        0x6504_00 => Row(k, U16, RO, Nothing, Never, Fixed(1)),\n", "", "6504-0: U16 ro in the data sheet, nothing"),
+    ("0x6504_00 =>", "0x6503_00 =>", "not in index order: 6503-0 after 6503-0"),
+    ("0x6504_00 => Row(k, U16", "0x6504_00 => Row(k, U64", "not a line of the list"),
+    ("0x6504_00 =>", "0x6502_00 =>", "not in index order: 6502-0 after 6503-0"),
+    ("        0x1801_05 =>", "        0x1801_03 | 0x1801_05 =>", "not a line of the list"),
+    ("0x1801_05 => Row(k, U16, RW, All, Never, Setting(TPDO2_EVENT)", "0x1801_05 => Row(k, U16, RW, All, Never, Setting(TPDO3_EVENT)",
+     "neither a number nor a constant: TPDO3_EVENT"),
+    ("0x1008_00 => Row(k, NAME", "0x1008_00 => Row(k, U32", "1008-0: name ro in the data sheet, U32 ro in the proved list"),
+    ("0x1009_00 => Row(k, NAME, RO", "0x1009_00 => Row(k, NAME, RW", "1009-0: name ro in the data sheet, name rw"),
+    ("0x100A_00 =>", "0x100B_00 =>", "100B-0: nothing in the data sheet"),
+    ("Between(1_000, 1_000_000)", "Between(999, 1_000_000)", "6002-0: limits 1000 and 1000000 in the data sheet, 999 and 1000000 in the proved list"),
+    ("Between(5_000, 1_000_000)", "Between(5_000, 1_000_001)", "6005-1: limits 5000 and 1000000 in the data sheet, 5000 and 1000001"),
+    ("Fixed(0x0008_0196)", "Fixed(0x0002_0196)", "1000-0: 524694 in the data sheet, 131478 in the proved list"),
+    ("0x6504_00 => Row(k, U16, RO, Nothing, Never, Fixed(1)", "0x6504_00 => Row(k, U16, RO, Nothing, Never, Fixed(2)",
+     "6504-0: 1 in the data sheet, 2 in the proved list"),
 ]
 
-ALL = {"FILE": FILE, "SHEET": SHEET, "HEAD": HEAD, "TABLE": TABLE}
+ALL = {"FILE": FILE, "SHEET": SHEET, "HEAD": HEAD, "LIST": LIST}
 
 
 def broken_sheet(text, section, old, new):
@@ -201,6 +212,6 @@ def broken_sheet(text, section, old, new):
     return before + heading + changed if changed != after else None
 
 
-def broken_table(text, old, new):
-    """The table with `old` replaced; None if it does not stand there once."""
+def broken_list(text, old, new):
+    """The list with `old` replaced; None if it does not stand there once."""
     return text.replace(old, new) if text.count(old) == 1 else None

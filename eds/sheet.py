@@ -9,7 +9,7 @@ KEY = re.compile(r"([A-Za-z0-9_]+)=(\S.*\S|\S)")
 NUMBER = re.compile(r"0x[0-9A-F]+|0|[1-9][0-9]*")
 NODE_FORMULA = "$NODEID+"
 
-# ObjectType and DataType, CiA 301; a VISIBLE_STRING is a name in the proved table
+# ObjectType and DataType, CiA 301; a VISIBLE_STRING is a name in the proved list
 VAR, ARRAY, RECORD = 0x7, 0x8, 0x9
 NAME = "name"
 TYPES = {0x0004: "S32", 0x0005: "U8", 0x0006: "U16", 0x0007: "U32", 0x0009: NAME}

@@ -769,4 +769,40 @@ pub const MISTAKES: &[Mistake] = &[
         "self.line = Line::EMPTY;",
         "for kind in [Kind::Emergency, Kind::Reply, Kind::Heartbeat] { self.line.withdraw(kind); }\n        self.withdraw_timed(Which::One);\n        self.withdraw_timed(Which::Two);",
     ),
+    (
+        "no such sub-index of 1801h is no such index",
+        "entry",
+        "None if has_index(index) => Err(abort::NO_SUB_INDEX),",
+        "None if has_index(index) && index != 0x1801 => Err(abort::NO_SUB_INDEX),",
+    ),
+    (
+        "1801h has a sub-index 3",
+        "entry",
+        "5 => Entry::PdoTimer(which),",
+        "3 if which == Which::Two => Entry::PdoTimer(which),\n        5 => Entry::PdoTimer(which),",
+    ),
+    (
+        "6200h is 1801-5 under a second index",
+        "entry",
+        "(0x6200, 0) => Entry::PdoTimer(Which::One),",
+        "(0x6200, 0) => Entry::PdoTimer(Which::Two),",
+    ),
+    (
+        "the last entry isn't found",
+        "entry",
+        "0x6000..=0x6509 => profile(index, sub),",
+        "0x6000..=0x6508 => profile(index, sub),",
+    ),
+    (
+        "an index between two of the list is no such sub-index",
+        "entry",
+        "| 0x6002..=0x6005 | 0x6200",
+        "| 0x6001..=0x6005 | 0x6200",
+    ),
+    (
+        "sub-index FFh is sub-index 0",
+        "entry",
+        "let found = match index {",
+        "let sub = if sub == 0xFF { 0 } else { sub };\n        let found = match index {",
+    ),
 ];

@@ -5,7 +5,6 @@ ghost use mathlib.Core.Bool.{cond};
 ghost use Rattle.dictionary.specs.Accepted.{on, pdoIdentifier, transmissionType, valueAbortCode, pdoBarred, barred as barredBy, abortCode};
 use entries::Device;
 use entries::Pdo;
-use entries::table;
 use entries::table::Accepted;
 use entries::table::PRESET;
 use entries::table::RANGE;
@@ -29,12 +28,12 @@ const BIT_11: u32 = 0x800;
 pub fn abort_code(device: Device, row: Row, value: u32) -> u32
     ensures { λ r. ⌜ r ≡ abortCode device row value ⌝ }
 {
-    let accepted = row.4;
+    let accepted = row.3;
     let code = value_abort_code(accepted, device.node, device.settings.profile.range, value);
     if code != 0 {
         return code;
     }
-    if barred(device, table::key(row), value) {
+    if barred(device, row.0, value) {
         return DEVICE_STATE;
     }
     0

@@ -6,7 +6,7 @@ use mathlib.Core.Path.{_≡_, refl, _∙_}
 use mathlib.Core.Bool.{Bool, true, false, not, cond}
 use Rattle.entries.specs.declared.Device.{Device}
 use Rattle.entries.specs.declared.table.Row.{Row}
-use Rattle.entries.specs.Table.{keyOf}
+use Rattle.entries.specs.Table.{key}
 use Rattle.dictionary.specs.AbortCodes.{invalidValue, wrongSignature, deviceState}
 use Rattle.dictionary.specs.Accepted.{acceptsIn, isSignature, valueAbortCode, barred, abortCode}
 
@@ -33,22 +33,22 @@ unaborted true s false e = (refl, refl)
 unaborted false true b e = absurd (omega arith)
 unaborted false false b e = absurd (omega arith)
 
-module _ (d : Device) (r : Row) (v x : ℕ) (e : x ≡ valueAbortCode (r .4) (d .node) (d .settings .profile .range) v) where
+module _ (d : Device) (r : Row) (v x : ℕ) (e : x ≡ valueAbortCode (r .3) (d .node) (d .settings .profile .range) v) where
   abbrev accepted : Bool
   accepted = acceptsIn d r v
 
   abbrev stops : Bool
-  stops = barred d (keyOf (r .0) (r .1)) v
+  stops = barred d (key r) v
 
   pub value-first : (x ≡ 0 → ⊥) → x ≡ abortCode d r v
   unfolding abortCode
-  value-first h = e ∙ aborted accepted (isSignature (r .4)) stops (λ z. h (e ∙ z))
+  value-first h = e ∙ aborted accepted (isSignature (r .3)) stops (λ z. h (e ∙ z))
 
-  pub state-next : (b : Bool) → b ≡ barred d (keyOf (r .0) (r .1)) v → x ≡ 0 → state b ≡ abortCode d r v
+  pub state-next : (b : Bool) → b ≡ barred d (key r) v → x ≡ 0 → state b ≡ abortCode d r v
   unfolding abortCode
-  state-next b f h = rw f (free accepted (isSignature (r .4)) stops (rw (← e) h))
+  state-next b f h = rw f (free accepted (isSignature (r .3)) stops (rw (← e) h))
 
 pub taken : (d : Device) (r : Row) (v : ℕ) → abortCode d r v ≡ 0
-    → (acceptsIn d r v ≡ true) × (barred d (keyOf (r .0) (r .1)) v ≡ false)
+    → (acceptsIn d r v ≡ true) × (barred d (key r) v ≡ false)
 unfolding abortCode
-taken d r v e = unaborted (acceptsIn d r v) (isSignature (r .4)) (barred d (keyOf (r .0) (r .1)) v) e
+taken d r v e = unaborted (acceptsIn d r v) (isSignature (r .3)) (barred d (key r) v) e

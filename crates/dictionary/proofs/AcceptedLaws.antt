@@ -14,7 +14,9 @@ use Rattle.position.specs.Position.{bit, scalingBit}
 use Rattle.entries.specs.declared.Pdo.{Pdo}
 use Rattle.entries.specs.declared.Device.{Device}
 use Rattle.entries.specs.declared.table.Row.{Row}
-use Rattle.entries.specs.Table.{missing, entries, table, noRow, rowAt, index, sub, width, isRw, accepted, key, lookup}
+use Rattle.entries.specs.Table.{missing, table, key, index, sub, width, isRw, accepted, lookup}
+use Rattle.entries.specs.Laws.{Listed}
+use Rattle.entries.proofs.Listed.{agree}
 use Rattle.entries.specs.Keys.{tpdo1, tpdo2, identifierKeyOf, typeKeyOf, rangeKey, presetKey, stepKey}
 use Rattle.dictionary.specs.AbortCodes.{invalidValue, wrongSignature, deviceState}
 use Rattle.dictionary.specs.Accepted.{on, emergencyIdentifier, pdoIdentifier, transmissionType, operatingParameters, isSignature}
@@ -22,7 +24,6 @@ use Rattle.dictionary.specs.Accepted.{pdoBarred, barred, acceptsIn, abor
 use Rattle.dictionary.specs.AcceptedLaws.{IdentifiesEmergency, IdentifiesPdo, IsType, IsOperating, acceptedValues, those, AcceptEach}
 use Rattle.dictionary.specs.AcceptedLaws.{HasSignature, HeldBy, Bars, Words, Coded, AcceptedLaws}
 use Rattle.dictionary.proofs.Tested.{Tests, equal, below, fails, both, either, neither, between, meaning, same, _▸_}
-use Rattle.dictionary.proofs.Columns.{at-place}
 
 every : Tests true (Unit {0})
 every = (λ _. tt, λ _. refl)
@@ -97,11 +98,11 @@ module _ (v : ℕ) where
 
 all-of-them : (n t v : ℕ)
     → map {B = ℕ × ℕ × ℕ} (λ l. (l .0, l .1, l .2)) (acceptedValues n t v) ≡ map (λ r. (index r, sub r, width r)) (those isRw table)
-unfolding table entries
+unfolding table
 all-of-them n t v = refl
 
 values : (d : Device) (v : ℕ) → 1 ≤ d .node → d .node ≤ 127 → AcceptEach d v (acceptedValues (d .node) (d .settings .profile .range) v)
-unfolding table entries lookup
+unfolding table lookup
 values d v l h =
     (λ _. equal v 0)
     ▸ (λ _. equal v 0x65766173)
@@ -127,13 +128,13 @@ abbrev named : Row → Bool
 named r = eqb (key r) 0x1010_01 || eqb (key r) 0x1011_01
 
 columns : map (λ r. isSignature (accepted r)) table ≡ map named table
-unfolding table entries
+unfolding table
 columns = refl
 
-signatures : (p : ℕ) → Tests (isSignature (accepted (rowAt p))) (HasSignature (key (rowAt p)))
-signatures p =
-    let k = key (rowAt p) in
-    same (at-place (λ r. isSignature (accepted r)) named table noRow p refl columns)
+signatures : (r : Row) → Listed r → Tests (isSignature (accepted r)) (HasSignature (key r))
+signatures r l =
+    let k = key r in
+    same (agree (λ q. isSignature (accepted q)) named columns r l)
     (either (eqb k 0x1010_01) (eqb k 0x1011_01) (equal k 0x1010_01) (equal k 0x1011_01))
 
 -- with scaling off
@@ -223,16 +224,16 @@ which false false b = record { is-invalid = refl; is-wrong = refl; is-barred = r
 coded-as : {P : Type 0} {t : Bool} (n c : ℕ) → eqb n c ≡ t → Tests t P → (n ≡ c) ↔ P
 coded-as n c e h = let x = same e h in (λ f. x .0 (equal n c .1 f), λ q. equal n c .0 (x .1 q))
 
-codes : (d : Device) (p v : ℕ) → Words d v → Coded d p v
+codes : (d : Device) (r : Row) (v : ℕ) → Listed r → Words d v → Coded d r v
 unfolding abortCode
-codes d p v w =
-    let a = acceptsIn d (rowAt p) v in
-    let s = isSignature (accepted (rowAt p)) in
-    let b = barred d (key (rowAt p)) v in
+codes d r v l w =
+    let a = acceptsIn d r v in
+    let s = isSignature (accepted r) in
+    let b = barred d (key r) v in
     let n = code a s b in
     let x = which a s b in
-    let signed = signatures p in
-    let stopped = states d (key (rowAt p)) v w in
+    let signed = signatures r l in
+    let stopped = states d (key r) v w in
     let passed : Tests a (a ≡ true) = (λ e. e, λ e. e) in
     record {
       invalid-value = coded-as n 0x06090030 (x .is-invalid) (both (not a) (not s) (fails a) (neither s signed));

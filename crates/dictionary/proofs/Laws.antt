@@ -8,12 +8,12 @@ use mathlib.Core.Option.{some}
 use Rattle.entries.specs.declared.Device.{Device}
 use Rattle.entries.specs.declared.table.Found.the-variants.{At}
 use Rattle.entries.specs.declared.table.Row.{Row}
-use Rattle.entries.specs.Table.{entries, table, noRow, rowAt, index, sub, width, isRw, lookup}
+use Rattle.entries.specs.Table.{table, noRow, rowAt, index, sub, width, isRw, lookup}
 use Rattle.entries.specs.Laws.{columns}
 use Rattle.entries.proofs.Laws.{laws as entries-laws}
 use Rattle.dictionary.specs.declared.read.Shown.{Shown}
 use Rattle.dictionary.specs.declared.read.Shown.the-variants.{Number}
-use Rattle.dictionary.specs.Reads.{shownAt, readOf}
+use Rattle.dictionary.specs.Reads.{shown, readOf}
 use Rattle.dictionary.specs.Writes.{written}
 use Rattle.dictionary.specs.Laws.{Shows, Laws}
 use Rattle.dictionary.proofs.Factory.{factory-valid}
@@ -30,13 +30,13 @@ columnsOf r = (index r, sub r, width r, isRw r)
 rows : (p : ℕ) → columnsOf (rowAt p) ≡ getD columns p (0, 0, 0, false)
 rows p = sym (List·getD-map columnsOf table p noRow) ∙ ap (λ (l : List Columns). getD l p (0, 0, 0, false)) (entries-laws .all-of-them)
 
--- what stands at the place that is found
-pub shows : (d : Device) (o : Bool) (i j : ℕ) {p : ℕ} {s : Shown} → lookup i j ≡ At p → shownAt d o p ≡ s → Shows d o i j s
+-- what the row that is found shows
+pub shows : (d : Device) (o : Bool) (i j : ℕ) {r : Row} {s : Shown} → lookup i j ≡ At r → shown d o r ≡ s → Shows d o i j s
 shows d o i j e f = ap (readOf d o) e ∙ ap some f
 
 second-reads : (d : Device) (o : Bool)
     → let event = Number (d .settings .communication .pdo1 .event) in Shows d o 0x1800 5 event × Shows d o 0x6200 0 event
-unfolding table entries lookup shownAt
+unfolding table lookup shown
 second-reads d o = (shows d o 0x1800 5 refl refl, shows d o 0x6200 0 refl refl)
 
 second-writes : (d : Device) (v : ℕ) → written d 0x6200_00 v ≡ written d 0x1800_05 v

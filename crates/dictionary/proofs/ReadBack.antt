@@ -4,51 +4,48 @@ use mathlib.Core.Path.{_≡_, refl, sym, _∙_, ap}
 use mathlib.Core.Bool.{Bool, true, cond}
 use mathlib.Core.List.{map}
 use lib.Dec.{eqb}
-use lib.ListN.{getD}
 use borrow.Author.Tests.{eqb-true}
 use Rattle.cases.proofs.Cases.{by}
 use Rattle.entries.specs.declared.Device.{Device}
 use Rattle.entries.specs.declared.table.Row.{Row}
-use Rattle.entries.specs.Table.{Entry, entries, table, noRow, rowAt, key}
+use Rattle.entries.specs.Table.{table, key, isRw, accepted, source, numberOf}
 use Rattle.entries.specs.Keys.{errorCountKey}
+use Rattle.entries.proofs.Listed.{agree}
 use Rattle.dictionary.specs.Accepted.{acceptsIn, isSignature}
-use Rattle.dictionary.specs.Reads.{noEntry}
 use Rattle.dictionary.specs.Writes.{written}
 use Rattle.dictionary.specs.Laws.{Takes}
 use Rattle.dictionary.proofs.Accepted.{taken}
-use Rattle.dictionary.proofs.Columns.{at-place, row-of}
 
 abbrev isCount : Row → Bool
 isCount r = eqb (key r) errorCountKey
 
-module _ (d : Device) (o : Bool) (p v : ℕ) where
+module _ (d : Device) (o : Bool) (r : Row) (v : ℕ) where
   -- what an rw entry reads after the write, and what is expected; 0 for another
-  abbrev read : Entry → ℕ
-  read e = cond (e .row .3) (e .number (written d (key (e .row)) v) o) 0
+  abbrev read : Row → ℕ
+  read q = cond (isRw q) (numberOf (source q) (written d (key q) v) o) 0
 
-  abbrev expected : Entry → ℕ
-  expected e = cond (e .row .3) (cond (isSignature (e .row .4)) 1 (cond (isCount (e .row)) 0 v)) 0
+  abbrev expected : Row → ℕ
+  expected q = cond (isRw q) (cond (isSignature (accepted q)) 1 (cond (isCount q) 0 v)) 0
 
-  columns : map read entries ≡ map expected entries
-  unfolding entries written
+  columns : map read table ≡ map expected table
+  unfolding table written
   columns = refl
 
   -- whether 1003-0 accepts v
   abbrev empties : Row → Bool
-  empties r = cond (isCount r) (acceptsIn d r v) (eqb v 0)
+  empties q = cond (isCount q) (acceptsIn d q v) (eqb v 0)
 
-  only-0 : map empties table ≡ map (λ r. eqb v 0) table
-  unfolding table entries
+  only-0 : map empties table ≡ map (λ q. eqb v 0) table
+  unfolding table
   only-0 = refl
 
-  pub emptied : Takes d p v → isCount (rowAt p) ≡ true → v ≡ 0
+  pub emptied : Takes d r v → isCount r ≡ true → v ≡ 0
   emptied t e =
-      let accepted = rw e at (at-place empties (λ r. eqb v 0) table noRow p refl only-0) in
-      eqb-true v 0 (sym accepted ∙ taken d (rowAt p) v (t .unaborted) .0)
+      let accepts = rw e at (agree empties (λ q. eqb v 0) only-0 r (t .listed)) in
+      eqb-true v 0 (sym accepts ∙ taken d r v (t .unaborted) .0)
 
-  pub reads-back : Takes d p v → getD entries p noEntry .number (written d (key (rowAt p)) v) o ≡ cond (isSignature (rowAt p .4)) 1 v
+  pub reads-back : Takes d r v → numberOf (source r) (written d (key r) v) o ≡ cond (isSignature (accepted r)) 1 v
   reads-back t =
-      let s = isSignature (rowAt p .4) in
-      let writable = rw (row-of p) at (t .writable) in
-      rw (row-of p) (rw writable at (at-place read expected entries noEntry p refl columns))
-      ∙ by (λ n. cond s 1 n ≡ cond s 1 v) (isCount (rowAt p)) (λ e. ap (λ n. cond s 1 n) (sym (emptied t e))) (λ _. refl)
+      let s = isSignature (accepted r) in
+      rw (t .writable) at (agree read expected columns r (t .listed))
+      ∙ by (λ n. cond s 1 n ≡ cond s 1 v) (isCount r) (λ e. ap (λ n. cond s 1 n) (sym (emptied t e))) (λ _. refl)

@@ -7,9 +7,9 @@ use mathlib.Core.Bool.{Bool}
 use lib.IntN.{negsuc}
 use borrow.Author.Tests.{lt-ltb, le-ltb}
 use Rattle.entries.specs.declared.Device.{Device}
-use Rattle.entries.specs.Table.{entries, table, lookup}
+use Rattle.entries.specs.Table.{table, lookup}
 use Rattle.dictionary.specs.declared.read.Shown.the-variants.{Blank, Number}
-use Rattle.dictionary.specs.Reads.{shownAt}
+use Rattle.dictionary.specs.Reads.{shown}
 use Rattle.dictionary.specs.Laws.{Shows}
 use Rattle.dictionary.specs.ReadLaws.{numbers, ShowEach, ReadLaws}
 use Rattle.dictionary.proofs.Tested.{_▸_}
@@ -17,7 +17,7 @@ use Rattle.dictionary.proofs.Laws.{shows}
 
 module _ (d : Device) (o : Bool) where
   plain : ShowEach d o (numbers d)
-  unfolding table entries lookup shownAt
+  unfolding table lookup shown
   plain =
       shows d o 0x1000 0 refl refl
       ▸ shows d o 0x1003 0 refl refl
@@ -60,7 +60,7 @@ module _ (d : Device) (o : Bool) where
       ▸ tt
 
   counted : (k : ℕ) → 1 ≤ k → k ≤ 4 → k ≤ d .errors → Shows d o 0x1003 k (Number 0x5000)
-  unfolding table entries lookup shownAt
+  unfolding table lookup shown
   counted zero l h e = absurd (omega arith)
   counted (suc zero) l h e = rw (le-ltb (d .errors) 1 e)
   counted (suc (suc zero)) l h e = rw (le-ltb (d .errors) 2 e)
@@ -69,7 +69,7 @@ module _ (d : Device) (o : Bool) where
   counted (suc (suc (suc (suc (suc k))))) l h e = absurd (omega arith)
 
   beyond : (k : ℕ) → 1 ≤ k → k ≤ 4 → d .errors < k → Shows d o 0x1003 k Blank
-  unfolding table entries lookup shownAt
+  unfolding table lookup shown
   beyond zero l h e = absurd (omega arith)
   beyond (suc zero) l h e = rw (lt-ltb (d .errors) 1 e)
   beyond (suc (suc zero)) l h e = rw (lt-ltb (d .errors) 2 e)
@@ -78,14 +78,14 @@ module _ (d : Device) (o : Bool) where
   beyond (suc (suc (suc (suc (suc k))))) l h e = absurd (omega arith)
 
   offset-negative : (n : ℕ) → d .settings .profile .offset ≡ negsuc n → Shows d o 0x6509 0 (Number (0x100000000 - suc n))
-  unfolding table entries lookup shownAt
+  unfolding table lookup shown
   offset-negative n e = let same : 0xFFFFFFFF - n ≡ 0x100000000 - suc n = omega arith in rw (e, same)
 
 pub read-laws : ReadLaws
-unfolding table entries lookup shownAt
+unfolding table lookup shown
 read-laws d o =
     record {
-      stands = λ i j p e. shows d o i j e refl;
+      stands = λ i j r e. shows d o i j e refl;
       plain = plain d o;
       missing = λ e. rw e (refl, refl, refl);
       good = λ e. rw e (refl, refl, refl);

@@ -1,11 +1,10 @@
--- Every entry fits its type: one fact for each entry of the table, in its order. Assumes nothing.
+-- Every entry fits its type: one fact for each row of the table, in its order. Assumes nothing.
 use Prim.Native.Nat.{ℕ, _+_, _^_, _≤_, _<_}
 use native.Mathlib.Omega.{arith}
 use mathlib.Core.Path.{_≡_, refl}
 use mathlib.Core.Bool.{Bool, true, _&&_, cond}
 use lib.Dec.{T, leb, ltb, lit<}
 use lib.IntN.{ℤ, pos, negsuc, natAbs}
-use lib.ListN.{length, getD, length-map}
 use borrow.Author.Tests.{leb-true}
 use Rattle.cases.specs.Tests.{within}
 use Rattle.cases.proofs.Cases.{by, both, either, Each, _▸_, end}
@@ -18,13 +17,13 @@ use Rattle.names.specs.declared.Name.{Name}
 use Rattle.names.specs.Name.{isName}
 use Rattle.entries.specs.declared.Device.{Device}
 use Rattle.entries.specs.declared.Identity.{Identity}
-use Rattle.entries.specs.Table.{Entry, missing, entries, table, rowAt}
+use Rattle.entries.specs.declared.table.Row.{Row}
+use Rattle.entries.specs.Table.{missing, table, width, source, numberOf}
+use Rattle.entries.specs.Laws.{Listed}
 use Rattle.dictionary.specs.Accepted.{transmissionType}
-use Rattle.dictionary.specs.Reads.{noEntry}
 use Rattle.dictionary.specs.Valid.{ValidIdentity, ValidDevice}
 use Rattle.dictionary.specs.AcceptedLaws.{those}
-use Rattle.dictionary.proofs.Columns.{row-of}
-use Rattle.dictionary.proofs.Those.{at-each}
+use Rattle.dictionary.proofs.Those.{of-each}
 
 at-most : {n b c : ℕ} → n ≤ b → T (ltb b c) → n < c
 at-most {n} {b} {c} h t = omega (arith, lit< {m = b} {n = c} t)
@@ -64,11 +63,11 @@ module _ {p : Profile} (h : ValidProfile p) where
   offset-below : twos (p .offset) < 0x100000000
   offset-below = twos-below (p .offset) (omega arith)
 
-Typed : Entry → Type 0
-Typed e = (d : Device) (o : Bool) → ValidDevice d → e .number d o < 256 ^ (e .row .2)
+Typed : Row → Type 0
+Typed r = (d : Device) (o : Bool) → ValidDevice d → numberOf (source r) d o < 256 ^ width r
 
-each : Each Typed (those (λ e. true) entries)
-unfolding Typed entries
+each : Each Typed (those (λ r. true) table)
+unfolding Typed table
 each =
     (λ d o h. lit< tt)
     ▸ (λ d o h. by (λ n. n < 256) (missing d) (λ _. lit< tt) (λ _. lit< tt))
@@ -119,6 +118,6 @@ each =
     ▸ (λ d o h. offset-below (h .settings .profile))
     ▸ end
 
-pub typed : (d : Device) (o : Bool) (p : ℕ) → p < length table → ValidDevice d → getD entries p noEntry .number d o < 256 ^ (rowAt p .2)
-unfolding Typed table
-typed d o p s h = rw (row-of p) (at-each Typed (λ e. true) entries noEntry p each (rw length-map at s) refl d o h)
+pub typed : (d : Device) (o : Bool) (r : Row) → Listed r → ValidDevice d → numberOf (source r) d o < 256 ^ width r
+unfolding Typed
+typed d o r l h = of-each Typed (λ q. true) each r l refl d o h

@@ -17,7 +17,7 @@ use Rattle.entries.specs.declared.Settings.{Settings}
 use Rattle.entries.specs.declared.Device.{Device}
 use Rattle.entries.specs.declared.table.Row.{Row}
 use Rattle.entries.specs.Settings.{pdo}
-use Rattle.entries.specs.Table.{entries, table, noRow, rowAt, key}
+use Rattle.entries.specs.Table.{table, key, width, isRw, accepted}
 use Rattle.entries.specs.Keys.{errorCountKey, saveKey, loadKey, rangeKey, presetKey, stepKey}
 use Rattle.dictionary.specs.Accepted.{emergencyIdentifier, pdoIdentifier, transmissionType, operatingParameters, accepts}
 use Rattle.dictionary.specs.Accepted.{acceptsIn}
@@ -26,7 +26,7 @@ use Rattle.dictionary.specs.Valid.{ValidPdo, ValidCommunication, ValidSe
 use Rattle.dictionary.specs.Laws.{Takes}
 use Rattle.dictionary.specs.AcceptedLaws.{those}
 use Rattle.dictionary.proofs.Accepted.{taken}
-use Rattle.dictionary.proofs.Those.{at-each}
+use Rattle.dictionary.proofs.Those.{of-each}
 use Rattle.dictionary.proofs.Factory.{factory-valid}
 
 -- a number of that length is one of its type
@@ -148,7 +148,7 @@ module _ {p : Profile} (v : ℕ) (h : ValidProfile p) where
 
 -- what is known of v where the entry of a row takes it
 record Taken (d : Device) (r : Row) (v : ℕ) : Type 0 where
-  long : v < 256 ^ (r .2)
+  long : v < 256 ^ width r
   accepted : acceptsIn d r v ≡ true
   -- it is not 6002h or 6005h with scaling off
   scaling : ((eqb (key r) rangeKey || eqb (key r) stepKey) && not (bit scalingBit (d .settings .profile .operating))) ≡ false
@@ -157,8 +157,8 @@ Keeps : Row → Type 0
 Keeps r =
     (d : Device) (v : ℕ) → Taken d r v → ValidSettings (d .node) (d .settings) → ValidSettings (d .node) (written d (key r) v .settings)
 
-keeps : Each Keeps (those (λ r. r .3) table)
-unfolding Keeps table entries written
+keeps : Each Keeps (those isRw table)
+unfolding Keeps table written
 keeps =
     (λ d v t h. h)
     ▸ (λ d v t h. h)
@@ -181,30 +181,30 @@ keeps =
 
 -- 6003h is below 6002h
 Below : Row → Type 0
-Below r = (n t v : ℕ) → accepts (r .4) n t v ≡ true → v < t
+Below r = (n t v : ℕ) → accepts (accepted r) n t v ≡ true → v < t
 
 below : Each Below (those (λ r. eqb (key r) presetKey) table)
-unfolding Below table entries
+unfolding Below table
 below = (λ n t v a. ltb-true v t a) ▸ end
 
-module _ (d : Device) (p v : ℕ) (t : Takes d p v) where
-  known : Taken d (rowAt p) v
+module _ (d : Device) (r : Row) (v : ℕ) (t : Takes d r v) where
+  known : Taken d r v
   known =
-      let k = key (rowAt p) in
+      let k = key r in
       let scaling = (eqb k rangeKey || eqb k stepKey) && not (bit scalingBit (d .settings .profile .operating)) in
-      let u = taken d (rowAt p) v (t .unaborted) in
+      let u = taken d r v (t .unaborted) in
       record { long = t .long; accepted = u .0; scaling = neither scaling _ (neither _ _ (neither _ _ (u .1) .0) .0) .0 }
 
-  pub written-fits : Fits (d .settings .profile) (key (rowAt p)) v
+  pub written-fits : Fits (d .settings .profile) (key r) v
   unfolding Below
   written-fits e =
-      at-each Below (λ r. eqb (key r) presetKey) table noRow p below (t .stands) (eq-eqb _ _ e) (d .node)
+      of-each Below (λ q. eqb (key q) presetKey) below r (t .listed) (eq-eqb _ _ e) (d .node)
       (d .settings .profile .range) v (known .accepted)
 
-  pub written-valid : ValidDevice d → ValidDevice (written d (key (rowAt p)) v)
+  pub written-valid : ValidDevice d → ValidDevice (written d (key r) v)
   unfolding Keeps written
   written-valid h =
-      let k = key (rowAt p) in
+      let k = key r in
       record {
         node-low = h .node-low;
         node-high = h .node-high;
@@ -212,7 +212,7 @@ module _ (d : Device) (p v : ℕ) (t : Takes d p v) where
         raw = h .raw;
         raw-missing = h .raw-missing;
         errors = by (λ n. n ≤ 4) (eqb k errorCountKey) (λ _. omega arith) (λ _. h .errors);
-        settings = at-each Keeps (λ r. r .3) table noRow p keeps (t .stands) (t .writable) d v known (h .settings);
+        settings = of-each Keeps isRw keeps r (t .listed) (t .writable) d v known (h .settings);
         saved =
             by (ValidSettings (d .node)) (eqb k saveKey) (λ _. h .settings)
             (λ _. by (ValidSettings (d .node)) (eqb k loadKey) (λ _. factory-valid (d .node) (h .node-low) (h .node-high)) (λ _. h .saved));

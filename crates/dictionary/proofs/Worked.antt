@@ -5,11 +5,14 @@ use native.Mathlib.Omega.{arith}
 use mathlib.Core.Path.{_≡_, refl}
 use mathlib.Core.Bool.{true}
 use Rattle.cases.proofs.Cases.{true-false}
+use Rattle.entries.specs.declared.table.Row.{Row}
 use Rattle.entries.specs.declared.table.Found.{Found}
 use Rattle.entries.specs.declared.table.Found.the-variants.{At, NoSubIndex, NoIndex}
-use Rattle.entries.specs.Table.{entries, table, lookup}
+use Rattle.entries.specs.Table.{table, noRow, lookup}
+use Rattle.entries.specs.Laws.{Listed}
+use Rattle.entries.proofs.Laws.{laws as entries-laws}
 use Rattle.dictionary.specs.Accepted.{abortCode}
-use Rattle.dictionary.specs.Reads.{shownAt}
+use Rattle.dictionary.specs.Reads.{shown}
 use Rattle.dictionary.specs.Writes.{written}
 use Rattle.dictionary.specs.Valid.{ValidIdentity, ValidDevice}
 use Rattle.dictionary.specs.Worked.{identity1, at, ready, ends, endEach, Worked}
@@ -44,28 +47,31 @@ at-valid =
       saved = factory-valid;
     }
 
--- where the entry that is found stands
-placeOf : Found → ℕ
-placeOf (At p) = p
-placeOf NoSubIndex = 0
-placeOf NoIndex = 0
+-- the row of the entry that is found
+abbrev rowIn : Found → Row
+rowIn (At r) = r
+rowIn NoSubIndex = noRow
+rowIn NoIndex = noRow
+
+listed : (i j : ℕ) (r : Row) → lookup i j ≡ At r → Listed r
+listed i j r e = entries-laws .finds i j .at r .0 e .0 .0
 
 ready-valid : ValidDevice ready
-unfolding entries table lookup placeOf abortCode written
+unfolding table lookup abortCode written
 ready-valid =
-    let one = laws .written-valid (at 100) (placeOf (lookup 0x1800 1)) 0x80000181
-    (record { stands = omega arith; writable = refl; long = omega arith; unaborted = refl }) at-valid in
-    let two = laws .written-valid _ (placeOf (lookup 0x1801 1)) 0x80000281
-    (record { stands = omega arith; writable = refl; long = omega arith; unaborted = refl }) one in
-    laws .written-valid _ (placeOf (lookup 0x6000 0)) 4
-    (record { stands = omega arith; writable = refl; long = omega arith; unaborted = refl }) two
+    let one = laws .written-valid (at 100) (rowIn (lookup 0x1800 1)) 0x80000181
+    (record { listed = listed 0x1800 1 _ refl; writable = refl; long = omega arith; unaborted = refl }) at-valid in
+    let two = laws .written-valid _ (rowIn (lookup 0x1801 1)) 0x80000281
+    (record { listed = listed 0x1801 1 _ refl; writable = refl; long = omega arith; unaborted = refl }) one in
+    laws .written-valid _ (rowIn (lookup 0x6000 0)) 4
+    (record { listed = listed 0x6000 0 _ refl; writable = refl; long = omega arith; unaborted = refl }) two
 
 ends-accepted : endEach ready ends ≡ true
-unfolding entries table lookup abortCode written
+unfolding table lookup abortCode written
 ends-accepted = refl
 
 pub worked : Worked
-unfolding entries table lookup abortCode shownAt written
+unfolding table lookup abortCode shown written
 worked =
     record {
       type = refl;

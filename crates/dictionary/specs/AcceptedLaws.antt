@@ -7,9 +7,11 @@ use mathlib.Core.Bool.{Bool, true, false, cond}
 use mathlib.Core.List.{List, [], _∷_, map}
 use Rattle.entries.specs.declared.Pdo.{Pdo}
 use Rattle.entries.specs.declared.Device.{Device}
+use Rattle.entries.specs.declared.table.Row.{Row}
 use Rattle.entries.specs.declared.table.Found.{Found}
 use Rattle.entries.specs.declared.table.Found.the-variants.{At, NoSubIndex, NoIndex}
-use Rattle.entries.specs.Table.{table, rowAt, index, sub, width, isRw, accepted, key, lookup}
+use Rattle.entries.specs.Table.{table, key, index, sub, width, isRw, accepted, lookup}
+use Rattle.entries.specs.Laws.{Listed}
 use Rattle.dictionary.specs.Accepted.{isSignature, acceptsIn, barred, abortCode}
 
 -- An rw entry: index, sub-index, bytes, and the condition under which it accepts v.
@@ -68,7 +70,7 @@ those t (a ∷ l) = cond (t a) (a ∷ those t l) (those t l)
 
 -- whether the entry that is found accepts v
 abbrev pub acceptsOf : Device → ℕ → Found → Bool
-acceptsOf d v (At p) = acceptsIn d (rowAt p) v
+acceptsOf d v (At r) = acceptsIn d r v
 acceptsOf d v NoSubIndex = false
 acceptsOf d v NoIndex = false
 
@@ -100,15 +102,15 @@ pub record Words (d : Device) (v : ℕ) : Type 0 where
   pub pdo1 : d .settings .communication .pdo1 .identifier < 0x100000000
   pub pdo2 : d .settings .communication .pdo2 .identifier < 0x100000000
 
--- The abort code for a write of v to the entry at place p: each code exactly when it is due.
-pub record Coded (d : Device) (p v : ℕ) : Type 0 where
+-- The abort code for a write of v to the entry of the row r: each code exactly when it is due.
+pub record Coded (d : Device) (r : Row) (v : ℕ) : Type 0 where
   -- 5. value: 0609 0030h; for 1010-1, 1011-1 a wrong signature 0800 0020h
-  pub invalid-value : (abortCode d (rowAt p) v ≡ 0x06090030) ↔ ((acceptsIn d (rowAt p) v ≡ false) × (HasSignature (key (rowAt p)) → ⊥))
-  pub wrong-signature : (abortCode d (rowAt p) v ≡ 0x08000020) ↔ ((acceptsIn d (rowAt p) v ≡ false) × HasSignature (key (rowAt p)))
+  pub invalid-value : (abortCode d r v ≡ 0x06090030) ↔ ((acceptsIn d r v ≡ false) × (HasSignature (key r) → ⊥))
+  pub wrong-signature : (abortCode d r v ≡ 0x08000020) ↔ ((acceptsIn d r v ≡ false) × HasSignature (key r))
   -- 6. 0800 0022h
-  pub state : (abortCode d (rowAt p) v ≡ 0x08000022) ↔ ((acceptsIn d (rowAt p) v ≡ true) × Bars d (key (rowAt p)) v)
+  pub state : (abortCode d r v ≡ 0x08000022) ↔ ((acceptsIn d r v ≡ true) × Bars d (key r) v)
   -- none
-  pub free : (abortCode d (rowAt p) v ≡ 0) ↔ ((acceptsIn d (rowAt p) v ≡ true) × (Bars d (key (rowAt p)) v → ⊥))
+  pub free : (abortCode d r v ≡ 0) ↔ ((acceptsIn d r v ≡ true) × (Bars d (key r) v → ⊥))
 
 pub record AcceptedLaws : Type 0 where
   -- The lines are all the rw entries of the table, in its order.
@@ -116,6 +118,6 @@ pub record AcceptedLaws : Type 0 where
       → map {B = ℕ × ℕ × ℕ} (λ l. (l .0, l .1, l .2)) (acceptedValues n t v) ≡ map (λ r. (index r, sub r, width r)) (those isRw table)
   pub values : (d : Device) (v : ℕ) → 1 ≤ d .node → d .node ≤ 127
       → AcceptEach d v (acceptedValues (d .node) (d .settings .profile .range) v)
-  pub signatures : (p : ℕ) → (isSignature (accepted (rowAt p)) ≡ true) ↔ HasSignature (key (rowAt p))
+  pub signatures : (r : Row) → Listed r → (isSignature (accepted r) ≡ true) ↔ HasSignature (key r)
   pub states : (d : Device) (k v : ℕ) → Words d v → (barred d k v ≡ true) ↔ Bars d k v
-  pub codes : (d : Device) (p v : ℕ) → Words d v → Coded d p v
+  pub codes : (d : Device) (r : Row) (v : ℕ) → Listed r → Words d v → Coded d r v

@@ -11,11 +11,12 @@ use Rattle.can.specs.Signed.{twos}
 use Rattle.position.specs.Position.{directed, position}
 use Rattle.entries.specs.declared.Device.{Device}
 use Rattle.entries.specs.declared.Settings.{Settings}
+use Rattle.entries.specs.declared.table.Row.{Row}
 use Rattle.entries.specs.Settings.{factory}
-use Rattle.entries.specs.Table.{missing, rowAt, keyOf, key}
+use Rattle.entries.specs.Table.{missing, keyOf, key}
 use Rattle.dictionary.specs.declared.read.Shown.{Shown}
 use Rattle.dictionary.specs.declared.read.Shown.the-variants.{Blank, Number}
-use Rattle.dictionary.specs.Reads.{shownAt, reads}
+use Rattle.dictionary.specs.Reads.{shown, reads}
 use Rattle.dictionary.specs.Writes.{rangeFor, rescaledTo, written}
 use Rattle.dictionary.specs.Valid.{ValidDevice}
 use Rattle.dictionary.specs.Laws.{Takes}
@@ -70,10 +71,10 @@ savedBy d k = given ((0x1010_01, d .settings) ∷ (0x1011_01, factory (d .node))
 abbrev pub readBack : ℕ → ℕ → ℕ
 readBack k v = given ((0x1010_01, 1) ∷ (0x1011_01, 1) ∷ []) k v
 
--- An accepted write of v to the entry at place p has exactly these effects, on all entries,
+-- An accepted write of v to the entry of the row r has exactly these effects, on all entries,
 pub record EffectLaws : Type 0 where
-  pub reads-after : (d : Device) (o : Bool) (p v : ℕ) → ValidDevice d → Takes d p v → let k = key (rowAt p) in (i j : ℕ)
+  pub reads-after : (d : Device) (o : Bool) (r : Row) (v : ℕ) → ValidDevice d → Takes d r v → let k = key r in (i j : ℕ)
       → reads (written d k v) o i j ≡ anew (effects d o k v) (keyOf i j) (reads d o i j)
   -- and the entry itself reads what was written
-  pub own-after : (d : Device) (o : Bool) (p v : ℕ) → ValidDevice d → Takes d p v → let k = key (rowAt p) in
-      shownAt (written d k v) o p ≡ Number (readBack k v)
+  pub own-after : (d : Device) (o : Bool) (r : Row) (v : ℕ) → ValidDevice d → Takes d r v → let k = key r in
+      shown (written d k v) o r ≡ Number (readBack k v)

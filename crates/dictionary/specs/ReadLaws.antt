@@ -7,10 +7,11 @@ use mathlib.Core.Bool.{Bool, true, false}
 use mathlib.Core.List.{List, [], _∷_}
 use Rattle.position.specs.Position.{position}
 use Rattle.entries.specs.declared.Device.{Device}
+use Rattle.entries.specs.declared.table.Row.{Row}
 use Rattle.entries.specs.declared.table.Found.the-variants.{At}
 use Rattle.entries.specs.Table.{lookup}
 use Rattle.dictionary.specs.declared.read.Shown.the-variants.{Blank, Number}
-use Rattle.dictionary.specs.Reads.{shownAt}
+use Rattle.dictionary.specs.Reads.{shown}
 use Rattle.dictionary.specs.Laws.{Shows}
 
 -- Index, sub-index, and the number of an entry that is never blank.
@@ -70,8 +71,8 @@ ShowEach d o [] = Unit {0}
 ShowEach d o (l ∷ ls) = Shows d o (l .0) (l .1) (Number (l .2)) × ShowEach d o ls
 
 pub record EachReads (d : Device) (o : Bool) : Type 0 where
-  -- what stands at the place of an entry is what the entry reads
-  pub stands : (i j p : ℕ) → lookup i j ≡ At p → Shows d o i j (shownAt d o p)
+  -- what the row of an entry shows is what the entry reads
+  pub stands : (i j : ℕ) (r : Row) → lookup i j ≡ At r → Shows d o i j (shown d o r)
   pub plain : ShowEach d o (numbers d)
   -- 1001-0: 1 while missing, else 0; 6503-0: bit 0: as 1001; 6004-0: position; blank while missing
   pub missing : d .reading .good ≡ false → Shows d o 0x1001 0 (Number 1) × Shows d o 0x6503 0 (Number 1) × Shows d o 0x6004 0 Blank

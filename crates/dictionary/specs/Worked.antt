@@ -13,7 +13,7 @@ use Rattle.entries.specs.declared.table.Row.{Row}
 use Rattle.entries.specs.declared.table.Found.{Found}
 use Rattle.entries.specs.declared.table.Found.the-variants.{At, NoSubIndex, NoIndex}
 use Rattle.entries.specs.Settings.{factory}
-use Rattle.entries.specs.Table.{table, rowAt, width, isRw, key, lookup}
+use Rattle.entries.specs.Table.{table, key, width, isRw, lookup}
 use Rattle.dictionary.specs.declared.read.Shown.{Shown}
 use Rattle.dictionary.specs.declared.read.Shown.the-variants.{Blank, Number}
 use Rattle.dictionary.specs.Accepted.{abortCode}
@@ -78,7 +78,7 @@ Reads d i j s = Shows d false i j s
 
 -- what the entry that is found answers to a write of v; none if none is found
 abbrev pub abortCodeOf : Device → ℕ → Found → Option ℕ
-abortCodeOf d v (At p) = some (abortCode d (rowAt p) v)
+abortCodeOf d v (At r) = some (abortCode d r v)
 abortCodeOf d v NoSubIndex = none
 abortCodeOf d v NoIndex = none
 

@@ -1,5 +1,5 @@
-pub mod Length
 pub mod Beside
-pub mod Lookup
+pub mod Listed
 pub mod Found
+pub mod Search
 pub mod Laws

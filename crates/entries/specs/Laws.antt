@@ -9,24 +9,30 @@ use mathlib.Core.Bool.{Bool, true, false, _&&_}
 use mathlib.Core.List.{List, [], _∷_, map}
 use Rattle.entries.specs.declared.Identity.{Identity}
 use Rattle.entries.specs.Identity.{nameOf}
+use Rattle.entries.specs.declared.table.Row.{Row}
 use Rattle.entries.specs.declared.table.Found.the-variants.{At, NoSubIndex, NoIndex}
-use Rattle.entries.specs.Table.{table, rowAt, index, sub, width, isRw, key, lookup}
+use Rattle.entries.specs.Table.{table, rowAt, key, index, sub, width, isRw, lookup}
 
-abbrev pub HasIndex : ℕ → ℕ → Type 0
-HasIndex p i = (p < length table) × (index (rowAt p) ≡ i)
+-- The list has the row r.
+abbrev pub Listed : Row → Type 0
+Listed r = (p : ℕ) × ((p < length table) × (rowAt p ≡ r))
 
--- The entry i-j stands at place p.
-abbrev pub Stands : ℕ → ℕ → ℕ → Type 0
-Stands p i j = HasIndex p i × (sub (rowAt p) ≡ j)
+-- a row of the index i,
+abbrev pub HasIndex : Row → ℕ → Type 0
+HasIndex r i = Listed r × (index r ≡ i)
+
+-- and the row of the entry i-j
+abbrev pub Stands : Row → ℕ → ℕ → Type 0
+Stands r i j = HasIndex r i × (sub r ≡ j)
 
 -- Each answer of `lookup` is given exactly when it is due.
 pub record Finds (i j : ℕ) : Type 0 where
-  -- where the entry stands
-  pub at : (p : ℕ) → (lookup i j ≡ At p) ↔ Stands p i j
-  -- no such sub-index: some entry has the index, and none has both
-  pub no-sub-index : (lookup i j ≡ NoSubIndex) ↔ (((p : ℕ) × HasIndex p i) × ((p : ℕ) → Stands p i j → ⊥))
-  -- no such index: no entry has it
-  pub no-index : (lookup i j ≡ NoIndex) ↔ ((p : ℕ) → HasIndex p i → ⊥)
+  -- a row is found exactly if the list has it
+  pub at : (r : Row) → (lookup i j ≡ At r) ↔ Stands r i j
+  -- no such sub-index: some row has the index, and none has both
+  pub no-sub-index : (lookup i j ≡ NoSubIndex) ↔ (((r : Row) × HasIndex r i) × ((r : Row) → Stands r i j → ⊥))
+  -- no such index: no row has it
+  pub no-index : (lookup i j ≡ NoIndex) ↔ ((r : Row) → HasIndex r i → ⊥)
 
 -- increasing keys: each is above the one before it, the first above a
 abbrev pub risesFrom : ℕ → List ℕ → Bool
@@ -89,7 +95,7 @@ pub record Laws : Type 0 where
   -- these are all the entries, and no others
   pub all-of-them : map (λ r. (index r, sub r, width r, isRw r)) table ≡ columns
   -- the number that names an entry elsewhere: 6003-0 is 0x6003_00
-  pub keys : (p : ℕ) → key (rowAt p) ≡ index (rowAt p) * 256 + sub (rowAt p)
+  pub keys : (r : Row) → key r ≡ index r * 256 + sub r
   pub finds : (i j : ℕ) → Finds i j
   -- the names 1008h, 1009h and 100Ah, numbered 1 to 3
   pub names : (i : Identity) → (nameOf i 1 ≡ i .name) × (nameOf i 2 ≡ i .hardware) × (nameOf i 3 ≡ i .software)

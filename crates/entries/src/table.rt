@@ -1,11 +1,34 @@
-//! The table of entries, in index order: the row of each entry, and its place. 01, "Entries".
+//! The list of entries, in index order, one line for each, and the search in it. 01, "Entries".
 ghost use mathlib.Core.Path.{_≡_};
-ghost use mathlib.Core.Bool.{cond};
-ghost use Prim.Native.Nat.{_+_, _<_, _≤_};
-ghost use lib.Dec.{eqb, ltb};
-ghost use lib.ListN.{getD, length};
-ghost use Rattle.entries.specs.declared.table.Found.the-variants.{At, NoSubIndex};
-ghost use Rattle.entries.specs.Table.{table, noRow, keyOf, key as keyIn, lookup};
+ghost use Prim.Native.Nat.{_<_, _≤_};
+ghost use Rattle.entries.specs.Table.{keyOf, rowOfKey, lookup};
+use Accepted::All;
+use Accepted::BelowRange;
+use Accepted::Between;
+use Accepted::EmergencyIdentifier;
+use Accepted::Nothing;
+use Accepted::Only;
+use Accepted::OperatingParameters;
+use Accepted::PdoIdentifier;
+use Accepted::Signature;
+use Accepted::TransmissionType;
+use Source::ErrorCount;
+use Source::Fixed;
+use Source::Load;
+use Source::Name;
+use Source::Offset;
+use Source::Position;
+use Source::Product;
+use Source::Register;
+use Source::Revision;
+use Source::Save;
+use Source::Serial;
+use Source::Setting;
+use Source::Status;
+use Source::Vendor;
+use WhenBlank::Beyond;
+use WhenBlank::Missing;
+use WhenBlank::Never;
 
 // The values that an entry accepts.
 pub enum Accepted {
@@ -21,12 +44,44 @@ pub enum Accepted {
     BelowRange,
 }
 
-// Index, sub-index, type, whether it can be written, accepted values.
-pub struct Row(pub u16, pub u8, pub u8, pub bool, pub Accepted);
+// When an entry is blank: never, while the reading is missing, or with fewer errors in the list than this.
+pub enum WhenBlank {
+    Never,
+    Missing,
+    Beyond(u32),
+}
 
-// Where an index and a sub-index stand in the table.
+// Where the number of an entry comes from. A setting has the key of its entry for a name.
+pub enum Source {
+    Fixed(u32),
+    Setting(u32),
+    Register,
+    ErrorCount,
+    Save,
+    Load,
+    Name(u8),
+    Vendor,
+    Product,
+    Revision,
+    Serial,
+    Position,
+    Status,
+    Offset,
+}
+
+// Key, type, whether it can be written, accepted values, when it is blank, where its number comes from.
+pub struct Row(
+    pub u32,
+    pub u8,
+    pub bool,
+    pub Accepted,
+    pub WhenBlank,
+    pub Source,
+);
+
+// What the list has for an index and a sub-index.
 pub enum Found {
-    At(usize),
+    At(Row),
     NoSubIndex,
     NoIndex,
 }
@@ -48,7 +103,15 @@ pub const INHIBIT: u32 = 0x1015_00;
 
 pub const HEARTBEAT: u32 = 0x1017_00;
 
+pub const TPDO1_ID: u32 = 0x1800_01;
+
+pub const TPDO1_TYPE: u32 = 0x1800_02;
+
 pub const TPDO1_EVENT: u32 = 0x1800_05;
+
+pub const TPDO2_ID: u32 = 0x1801_01;
+
+pub const TPDO2_TYPE: u32 = 0x1801_02;
 
 pub const TPDO2_EVENT: u32 = 0x1801_05;
 
@@ -61,6 +124,13 @@ pub const PRESET: u32 = 0x6003_00;
 pub const STEP: u32 = 0x6005_01;
 
 pub const CYCLE: u32 = 0x6200_00;
+
+// The first key of each part of the list but the first.
+const AT_1011: u32 = 0x1011_00;
+
+const AT_1800: u32 = 0x1800_00;
+
+const AT_6000: u32 = 0x6000_00;
 
 // A type is its number of bytes, a name's the most that it can have.
 const U8: u8 = 1;
@@ -77,142 +147,131 @@ const RO: bool = false;
 
 const RW: bool = true;
 
+// No entry: it has no type.
+const NO_ROW: Row = Row(0, 0, RO, Nothing, Never, Fixed(0));
+
+// Each index has the sub-index 0: if the list has no row for it, there is no such index.
 pub fn find(index: u16, sub: u8) -> Found
     ensures { λ r. ⌜ r ≡ lookup index sub ⌝ }
 {
-    match index {
-        0x1000 => by_sub_index(0, 1, sub),
-        0x1001 => by_sub_index(1, 1, sub),
-        0x1003 => by_sub_index(2, 5, sub),
-        0x1005 => by_sub_index(7, 1, sub),
-        0x1008 => by_sub_index(8, 1, sub),
-        0x1009 => by_sub_index(9, 1, sub),
-        0x100A => by_sub_index(10, 1, sub),
-        0x1010 => by_sub_index(11, 2, sub),
-        0x1011 => by_sub_index(13, 2, sub),
-        0x1014 => by_sub_index(15, 1, sub),
-        0x1015 => by_sub_index(16, 1, sub),
-        0x1017 => by_sub_index(17, 1, sub),
-        0x1018 => by_sub_index(18, 5, sub),
-        0x1800 => pdo_by_sub_index(23, sub),
-        0x1801 => pdo_by_sub_index(27, sub),
-        0x1A00 => by_sub_index(31, 2, sub),
-        0x1A01 => by_sub_index(33, 2, sub),
-        0x6000 => by_sub_index(35, 1, sub),
-        0x6002 => by_sub_index(36, 1, sub),
-        0x6003 => by_sub_index(37, 1, sub),
-        0x6004 => by_sub_index(38, 1, sub),
-        0x6005 => by_sub_index(39, 2, sub),
-        0x6200 => by_sub_index(41, 1, sub),
-        0x6500 => by_sub_index(42, 1, sub),
-        0x6501 => by_sub_index(43, 1, sub),
-        0x6503 => by_sub_index(44, 1, sub),
-        0x6504 => by_sub_index(45, 1, sub),
-        0x6509 => by_sub_index(46, 1, sub),
-        _ => Found::NoIndex,
+    let mut asked = sub;
+    loop {
+        let row = row_of(key_of(index, asked));
+        if row.1 != 0 {
+            if asked == sub {
+                return Found::At(row);
+            }
+            return Found::NoSubIndex;
+        }
+        if asked == 0 {
+            return Found::NoIndex;
+        }
+        asked = 0;
     }
 }
 
-// For an index with the sub-indices below `count`; sub-index 0 stands at place `first`.
-fn by_sub_index(first: u8, count: u8, sub: u8) -> Found
-    ensures { λ r. ⌜ r ≡ cond (ltb sub count) (At (first + sub)) NoSubIndex ⌝ }
+// Halves the list twice by its order, and looks for the key in the part that may have it.
+fn row_of(key: u32) -> Row
+    ensures { λ r. ⌜ r ≡ rowOfKey key ⌝ }
 {
-    if sub < count {
-        return Found::At(first as usize + sub as usize);
+    if key < AT_1800 {
+        if key < AT_1011 {
+            return from_1000(key);
+        }
+        return from_1011(key);
     }
-    Found::NoSubIndex
+    if key < AT_6000 {
+        return from_1800(key);
+    }
+    from_6000(key)
 }
 
-// For an index with the sub-indices 0, 1, 2 and 5.
-fn pdo_by_sub_index(first: u8, sub: u8) -> Found
-    ensures { λ r. ⌜ r ≡ cond (eqb sub 5) (At (first + 3)) (cond (ltb sub 3) (At (first + sub)) NoSubIndex) ⌝ }
+// The list, one line for each entry, in index order: key, type, access, accepted values, when it is blank,
+// where its number comes from. Its first part is 1000h to 1010h.
+fn from_1000(k: u32) -> Row
+    requires { ⌜ k < 0x1011_00 ⌝ }
+    ensures { λ r. ⌜ r ≡ rowOfKey k ⌝ }
 {
-    if sub == 5 {
-        return Found::At(first as usize + 3);
-    }
-    by_sub_index(first, 3, sub)
-}
-
-// The table; here 1000h to 1018h.
-pub fn row_at(place: usize) -> Row
-    requires { ⌜ place < length table ⌝ }
-    ensures { λ r. ⌜ r ≡ getD table place noRow ⌝ }
-{
-    match place {
-        0 => Row(0x1000, 0, U32, RO, Accepted::Nothing),
-        1 => Row(0x1001, 0, U8, RO, Accepted::Nothing),
-        2 => Row(0x1003, 0, U8, RW, Accepted::Only(0)),
-        3 => Row(0x1003, 1, U32, RO, Accepted::Nothing),
-        4 => Row(0x1003, 2, U32, RO, Accepted::Nothing),
-        5 => Row(0x1003, 3, U32, RO, Accepted::Nothing),
-        6 => Row(0x1003, 4, U32, RO, Accepted::Nothing),
-        7 => Row(0x1005, 0, U32, RO, Accepted::Nothing),
-        8 => Row(0x1008, 0, NAME, RO, Accepted::Nothing),
-        9 => Row(0x1009, 0, NAME, RO, Accepted::Nothing),
-        10 => Row(0x100A, 0, NAME, RO, Accepted::Nothing),
-        11 => Row(0x1010, 0, U8, RO, Accepted::Nothing),
-        12 => Row(0x1010, 1, U32, RW, Accepted::Signature(0x6576_6173)),
-        13 => Row(0x1011, 0, U8, RO, Accepted::Nothing),
-        14 => Row(0x1011, 1, U32, RW, Accepted::Signature(0x6461_6F6C)),
-        15 => Row(0x1014, 0, U32, RW, Accepted::EmergencyIdentifier),
-        16 => Row(0x1015, 0, U16, RW, Accepted::All),
-        17 => Row(0x1017, 0, U16, RW, Accepted::All),
-        18 => Row(0x1018, 0, U8, RO, Accepted::Nothing),
-        19 => Row(0x1018, 1, U32, RO, Accepted::Nothing),
-        20 => Row(0x1018, 2, U32, RO, Accepted::Nothing),
-        21 => Row(0x1018, 3, U32, RO, Accepted::Nothing),
-        22 => Row(0x1018, 4, U32, RO, Accepted::Nothing),
-        _ => pdo_row(place),
+    match k {
+        0x1000_00 => Row(k, U32, RO, Nothing, Never, Fixed(0x0008_0196)),
+        0x1001_00 => Row(k, U8, RO, Nothing, Never, Register),
+        0x1003_00 => Row(k, U8, RW, Only(0), Never, ErrorCount),
+        0x1003_01 => Row(k, U32, RO, Nothing, Beyond(1), Fixed(0x5000)),
+        0x1003_02 => Row(k, U32, RO, Nothing, Beyond(2), Fixed(0x5000)),
+        0x1003_03 => Row(k, U32, RO, Nothing, Beyond(3), Fixed(0x5000)),
+        0x1003_04 => Row(k, U32, RO, Nothing, Beyond(4), Fixed(0x5000)),
+        0x1005_00 => Row(k, U32, RO, Nothing, Never, Fixed(0x80)),
+        0x1008_00 => Row(k, NAME, RO, Nothing, Never, Name(1)),
+        0x1009_00 => Row(k, NAME, RO, Nothing, Never, Name(2)),
+        0x100A_00 => Row(k, NAME, RO, Nothing, Never, Name(3)),
+        0x1010_00 => Row(k, U8, RO, Nothing, Never, Fixed(1)),
+        0x1010_01 => Row(k, U32, RW, Signature(0x6576_6173), Never, Save),
+        _ => NO_ROW,
     }
 }
 
-// 1800h to 1A01h.
-fn pdo_row(place: usize) -> Row
-    requires { ⌜ (23 ≤ place) × (place < length table) ⌝ }
-    ensures { λ r. ⌜ r ≡ getD table place noRow ⌝ }
+// The list from 1011h to 1018h.
+fn from_1011(k: u32) -> Row
+    requires { ⌜ (0x1011_00 ≤ k) × (k < 0x1800_00) ⌝ }
+    ensures { λ r. ⌜ r ≡ rowOfKey k ⌝ }
 {
-    match place {
-        23 => Row(0x1800, 0, U8, RO, Accepted::Nothing),
-        24 => Row(0x1800, 1, U32, RW, Accepted::PdoIdentifier),
-        25 => Row(0x1800, 2, U8, RW, Accepted::TransmissionType),
-        26 => Row(0x1800, 5, U16, RW, Accepted::All),
-        27 => Row(0x1801, 0, U8, RO, Accepted::Nothing),
-        28 => Row(0x1801, 1, U32, RW, Accepted::PdoIdentifier),
-        29 => Row(0x1801, 2, U8, RW, Accepted::TransmissionType),
-        30 => Row(0x1801, 5, U16, RW, Accepted::All),
-        31 => Row(0x1A00, 0, U8, RO, Accepted::Nothing),
-        32 => Row(0x1A00, 1, U32, RO, Accepted::Nothing),
-        33 => Row(0x1A01, 0, U8, RO, Accepted::Nothing),
-        34 => Row(0x1A01, 1, U32, RO, Accepted::Nothing),
-        _ => profile_row(place),
+    match k {
+        0x1011_00 => Row(k, U8, RO, Nothing, Never, Fixed(1)),
+        0x1011_01 => Row(k, U32, RW, Signature(0x6461_6F6C), Never, Load),
+        0x1014_00 => Row(k, U32, RW, EmergencyIdentifier, Never, Setting(EMERGENCY)),
+        0x1015_00 => Row(k, U16, RW, All, Never, Setting(INHIBIT)),
+        0x1017_00 => Row(k, U16, RW, All, Never, Setting(HEARTBEAT)),
+        0x1018_00 => Row(k, U8, RO, Nothing, Never, Fixed(4)),
+        0x1018_01 => Row(k, U32, RO, Nothing, Never, Vendor),
+        0x1018_02 => Row(k, U32, RO, Nothing, Never, Product),
+        0x1018_03 => Row(k, U32, RO, Nothing, Never, Revision),
+        0x1018_04 => Row(k, U32, RO, Nothing, Never, Serial),
+        _ => NO_ROW,
     }
 }
 
-// 6000h to 6509h.
-fn profile_row(place: usize) -> Row
-    requires { ⌜ (35 ≤ place) × (place < length table) ⌝ }
-    ensures { λ r. ⌜ r ≡ getD table place noRow ⌝ }
+// The list from 1800h to 1A01h.
+fn from_1800(k: u32) -> Row
+    requires { ⌜ (0x1800_00 ≤ k) × (k < 0x6000_00) ⌝ }
+    ensures { λ r. ⌜ r ≡ rowOfKey k ⌝ }
 {
-    match place {
-        35 => Row(0x6000, 0, U16, RW, Accepted::OperatingParameters),
-        36 => Row(0x6002, 0, U32, RW, Accepted::Between(1_000, 1_000_000)),
-        37 => Row(0x6003, 0, U32, RW, Accepted::BelowRange),
-        38 => Row(0x6004, 0, U32, RO, Accepted::Nothing),
-        39 => Row(0x6005, 0, U8, RO, Accepted::Nothing),
-        40 => Row(0x6005, 1, U32, RW, Accepted::Between(5_000, 1_000_000)),
-        41 => Row(0x6200, 0, U16, RW, Accepted::All),
-        42 => Row(0x6500, 0, U16, RO, Accepted::Nothing),
-        43 => Row(0x6501, 0, U32, RO, Accepted::Nothing),
-        44 => Row(0x6503, 0, U16, RO, Accepted::Nothing),
-        45 => Row(0x6504, 0, U16, RO, Accepted::Nothing),
-        _ => Row(0x6509, 0, S32, RO, Accepted::Nothing),
+    match k {
+        0x1800_00 => Row(k, U8, RO, Nothing, Never, Fixed(5)),
+        0x1800_01 => Row(k, U32, RW, PdoIdentifier, Never, Setting(TPDO1_ID)),
+        0x1800_02 => Row(k, U8, RW, TransmissionType, Never, Setting(TPDO1_TYPE)),
+        0x1800_05 => Row(k, U16, RW, All, Never, Setting(TPDO1_EVENT)),
+        0x1801_00 => Row(k, U8, RO, Nothing, Never, Fixed(5)),
+        0x1801_01 => Row(k, U32, RW, PdoIdentifier, Never, Setting(TPDO2_ID)),
+        0x1801_02 => Row(k, U8, RW, TransmissionType, Never, Setting(TPDO2_TYPE)),
+        0x1801_05 => Row(k, U16, RW, All, Never, Setting(TPDO2_EVENT)),
+        0x1A00_00 => Row(k, U8, RO, Nothing, Never, Fixed(1)),
+        0x1A00_01 => Row(k, U32, RO, Nothing, Never, Fixed(0x6004_0020)),
+        0x1A01_00 => Row(k, U8, RO, Nothing, Never, Fixed(1)),
+        0x1A01_01 => Row(k, U32, RO, Nothing, Never, Fixed(0x6004_0020)),
+        _ => NO_ROW,
     }
 }
 
-pub fn key(row: Row) -> u32
-    ensures { λ r. ⌜ r ≡ keyIn row ⌝ }
+// The list from 6000h on.
+fn from_6000(k: u32) -> Row
+    requires { ⌜ 0x6000_00 ≤ k ⌝ }
+    ensures { λ r. ⌜ r ≡ rowOfKey k ⌝ }
 {
-    key_of(row.0, row.1)
+    match k {
+        0x6000_00 => Row(k, U16, RW, OperatingParameters, Never, Setting(OPERATING)),
+        0x6002_00 => Row(k, U32, RW, Between(1_000, 1_000_000), Never, Setting(RANGE)),
+        0x6003_00 => Row(k, U32, RW, BelowRange, Never, Setting(PRESET)),
+        0x6004_00 => Row(k, U32, RO, Nothing, Missing, Position),
+        0x6005_00 => Row(k, U8, RO, Nothing, Never, Fixed(1)),
+        0x6005_01 => Row(k, U32, RW, Between(5_000, 1_000_000), Never, Setting(STEP)),
+        0x6200_00 => Row(k, U16, RW, All, Never, Setting(TPDO1_EVENT)),
+        0x6500_00 => Row(k, U16, RO, Nothing, Never, Status),
+        0x6501_00 => Row(k, U32, RO, Nothing, Never, Fixed(5_000)),
+        0x6503_00 => Row(k, U16, RO, Nothing, Never, Register),
+        0x6504_00 => Row(k, U16, RO, Nothing, Never, Fixed(1)),
+        0x6509_00 => Row(k, S32, RO, Nothing, Never, Offset),
+        _ => NO_ROW,
+    }
 }
 
 pub fn key_of(index: u16, sub: u8) -> u32

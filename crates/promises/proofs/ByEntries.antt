@@ -18,9 +18,10 @@ use Rattle.position.proofs.Whole.{minus-sum}
 use Rattle.position.proofs.Laws.{laws as position-laws}
 use Rattle.entries.specs.declared.Device.{Device}
 use Rattle.entries.specs.declared.Reading.{Reading}
+use Rattle.entries.specs.declared.table.Row.{Row}
 use Rattle.entries.specs.declared.table.Found.{Found}
 use Rattle.entries.specs.declared.table.Found.the-variants.{At, NoSubIndex, NoIndex}
-use Rattle.entries.specs.Table.{keyOf, lookup, rowAt, width}
+use Rattle.entries.specs.Table.{keyOf, lookup, width}
 use Rattle.entries.specs.Laws.{Stands}
 use Rattle.entries.proofs.Laws.{laws as entries-laws}
 use Rattle.dictionary.specs.declared.read.Shown.{Shown}
@@ -48,9 +49,9 @@ in-some q = cc
 in-number : {a b : ℕ} → Number a ≡ Number b → a ≡ b
 in-number q = cc
 
--- what is read at the place that is found
+-- what is read of the row that is found
 asked : (h : Head) (f : Received) (s : Shown) → let i = indexOf (f .bytes) in let j = subOf (f .bytes) in
-    reading (f .bytes) ≡ true → readsIn h i j ≡ some s → (p : ℕ) × Stands p i j × (dueTo h f ≡ dueShown (width (rowAt p)) s)
+    reading (f .bytes) ≡ true → readsIn h i j ≡ some s → (r : Row) × Stands r i j × (dueTo h f ≡ dueShown (width r) s)
 asked h f s r = found (lookup i j) refl
   where
     d : Device
@@ -66,8 +67,8 @@ asked h f s r = found (lookup i j) refl
     j = subOf (f .bytes)
 
     found : (x : Found) → lookup i j ≡ x → readOf d o x ≡ some s
-        → (p : ℕ) × Stands p i j × (dueTo h f ≡ dueShown (width (rowAt p)) s)
-    found (At p) q e = (p, entries-laws .finds i j .at p .0 q, read-due d o (h .transfer) (f .bytes) p r q ∙ ap (dueShown (width (rowAt p))) (in-some e))
+        → (r : Row) × Stands r i j × (dueTo h f ≡ dueShown (width r) s)
+    found (At u) q e = (u, entries-laws .finds i j .at u .0 q, read-due d o (h .transfer) (f .bytes) u r q ∙ ap (dueShown (width u)) (in-some e))
     found NoSubIndex q e = absurd (let z : _≡_ {A = ℕ} 0 1 = cc in omega arith)
     found NoIndex q e = absurd (let z : _≡_ {A = ℕ} 0 1 = cc in omega arith)
 

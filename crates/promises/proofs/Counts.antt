@@ -80,7 +80,7 @@ free d k n e = each
     each two = apart .1
 
 pub unbarred : {d : Device} {f : List ℕ} {x : Found} {k n : ℕ} → Confirmed d f x k n → barred d k n ≡ false
-unbarred {d} {n = n} t = rw (t .key) (taken d (rowAt (t .place)) n (t .takes .unaborted) .1)
+unbarred {d} {n = n} t = rw (t .key) (taken d (t .its-row) n (t .takes .unaborted) .1)
 
 module _ (c : Core) (v : ValidTimers (communication c) (c .timers)) where
   write-valid : (k n : ℕ) → barred (c .device) k n ≡ false

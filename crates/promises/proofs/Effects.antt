@@ -94,13 +94,13 @@ module _ (h : Head) (f : Received) (valid : Valid h) (r : Requests h f) where
     reads-anew : (i j : ℕ) → reads (written d k v) o i j ≡ anew (effects d o k v) (keyOf i j) (reads d o i j)
     reads-anew i j =
         subst (λ n. reads (written d n v) o i j ≡ anew (effects d o n v) (keyOf i j) (reads d o i j)) (sym (its .key))
-        (effect-laws .reads-after d o (its .place) v (valid .device) (its .takes) i j)
+        (effect-laws .reads-after d o (its .its-row) v (valid .device) (its .takes) i j)
 
     own : reads (written d k v) o (indexOf (f .bytes)) (subOf (f .bytes)) ≡ some (Number (readBack k v))
     own =
         ap (readOf (written d k v) o) (its .found)
-        ∙ subst (λ n. readOf (written d n v) o (At (its .place)) ≡ some (Number (readBack n v))) (sym (its .key))
-        (ap some (effect-laws .own-after d o (its .place) v (valid .device) (its .takes)))
+        ∙ subst (λ n. readOf (written d n v) o (At (its .its-row)) ≡ some (Number (readBack n v))) (sym (its .key))
+        (ap some (effect-laws .own-after d o (its .its-row) v (valid .device) (its .takes)))
 
     accepted : Effects f k v h (step h (receive f))
     unfolding act settledTo written

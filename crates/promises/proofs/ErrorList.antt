@@ -12,10 +12,10 @@ use Rattle.cases.proofs.Cases.{by, test, both}
 use Rattle.can.specs.declared.Received.{Received}
 use Rattle.entries.specs.declared.Device.{Device}
 use Rattle.entries.specs.declared.Reading.{Reading}
-use Rattle.entries.specs.Table.{entries, table, lookup}
+use Rattle.entries.specs.Table.{table, lookup}
 use Rattle.entries.specs.Keys.{errorCountKey}
 use Rattle.dictionary.specs.declared.read.Shown.the-variants.{Number}
-use Rattle.dictionary.specs.Reads.{shownAt}
+use Rattle.dictionary.specs.Reads.{shown}
 use Rattle.dictionary.specs.Writes.{written}
 use Rattle.dictionary.specs.Laws.{Shows}
 use Rattle.dictionary.proofs.ReadBack.{emptied}
@@ -45,11 +45,11 @@ use Rattle.promises.proofs.Positions.{written-by}
 -- what 1003h reads
 module _ (d : Device) (o : Bool) where
   count-shown : Shows d o 0x1003 0 (Number (d .errors))
-  unfolding table entries lookup shownAt
+  unfolding table lookup shown
   count-shown = shows d o 0x1003 0 refl refl
 
   error-shown : (j : ℕ) → 1 ≤ j → j ≤ 4 → Shows d o 0x1003 j (shownError (d .errors) j)
-  unfolding table entries lookup shownAt
+  unfolding table lookup shown
   error-shown zero a b = absurd (omega arith)
   error-shown (suc zero) a b = shows d o 0x1003 1 refl refl
   error-shown (suc (suc zero)) a b = shows d o 0x1003 2 refl refl
@@ -90,7 +90,7 @@ module _ (h : Head) (f : Received) where
           (x .1, x .3 ∙ ap (λ (k : ℕ). confirmation k (x .1)) (eqb-true (x .0) errorCountKey (x .2))) in
           let c = told h f (y .1) in
           let zero : y .0 ≡ 0 =
-          emptied (h .core .device) (isIn operational (h .core)) (c .place) (y .0) (c .takes) (eq-eqb _ _ (sym (c .key))) in
+          emptied (h .core .device) (isIn operational (h .core)) (c .its-row) (y .0) (c .takes) (eq-eqb _ _ (sym (c .key))) in
           record { requests = is-request h f .0 (u .0); accepted = y .1 ∙ ap (λ (v : ℕ). confirmation errorCountKey v) zero }
 
 module _ (h : Head) (s : Sensor) (n : ℕ) (p : h .core .device .reading ≡ readingOf s) (q : h .core .device .errors ≡ min 4 n) where

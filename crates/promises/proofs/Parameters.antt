@@ -5,9 +5,9 @@ use mathlib.Core.Path.{_≡_, refl}
 use mathlib.Core.Logic.{_↔_}
 use mathlib.Core.Bool.{true}
 use borrow.Author.Tests.{eqb-false, ne-eqb, not-true}
-use Rattle.entries.specs.Table.{entries, table, lookup}
+use Rattle.entries.specs.Table.{table, lookup}
 use Rattle.dictionary.specs.Accepted.{on}
-use Rattle.dictionary.specs.Reads.{shownAt}
+use Rattle.dictionary.specs.Reads.{shown}
 use Rattle.dictionary.proofs.Laws.{shows}
 use Rattle.parts.specs.declared.Head.{Head}
 use Rattle.promises.specs.States.{operational, isIn, communication, PdoNumber, one, two, pdo}
@@ -15,7 +15,7 @@ use Rattle.promises.specs.Parameters.{parameters, Reads, Parameters}
 
 pdo-read : (h : Head) (w : PdoNumber) → let p = pdo (communication (h .core)) w in
     Reads h (parameters w) 1 (p .identifier) × Reads h (parameters w) 2 (p .transmission) × Reads h (parameters w) 5 (p .event)
-unfolding entries table lookup shownAt
+unfolding table lookup shown
 pdo-read h one =
     let d = h .core .device in
     let o = isIn operational (h .core) in
@@ -32,7 +32,7 @@ switched-on v few = (
 )
 
 pub parameters-read : (h : Head) → Parameters h
-unfolding entries table lookup shownAt
+unfolding table lookup shown
 parameters-read h =
     let d = h .core .device in
     let o = isIn operational (h .core) in

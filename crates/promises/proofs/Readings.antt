@@ -15,11 +15,15 @@ use Rattle.position.specs.Profile.{highestRaw}
 use Rattle.names.specs.declared.Transfer.{Transfer}
 use Rattle.entries.specs.declared.Device.{Device}
 use Rattle.entries.specs.declared.Reading.{Reading}
+use Rattle.entries.specs.declared.table.Row.{Row}
+use Rattle.entries.specs.declared.table.Accepted.the-variants.{Nothing}
+use Rattle.entries.specs.declared.table.WhenBlank.the-variants.{Missing as WhileMissing}
+use Rattle.entries.specs.declared.table.Source.the-variants.{Position}
 use Rattle.entries.specs.declared.table.Found.the-variants.{At}
-use Rattle.entries.specs.Table.{entries, table, lookup, rowAt, width}
+use Rattle.entries.specs.Table.{table, width, lookup}
 use Rattle.dictionary.specs.declared.read.Shown.{Shown}
 use Rattle.dictionary.specs.declared.read.Shown.the-variants.{Blank, Number}
-use Rattle.dictionary.specs.Reads.{shownAt, reads}
+use Rattle.dictionary.specs.Reads.{shown, reads}
 use Rattle.dictionary.specs.Laws.{Shows}
 use Rattle.dictionary.proofs.Laws.{shows}
 use Rattle.sdo.specs.Request.{top, indexOf, subOf, reading}
@@ -52,33 +56,36 @@ shownAs p r = cond (not (r .good)) Blank (Number (position p (r .raw)))
 
 -- what the entries of a device read
 module _ (d : Device) (o : Bool) where
-  -- it stands at place 38
-  position-place : lookup 0x6004 0 ≡ At 38
-  unfolding table entries lookup
-  position-place = refl
+  -- its row
+  abbrev position-row : Row
+  position-row = (0x6004_00, 4, false, Nothing, WhileMissing, Position)
 
-  position-there : (shownAt d o 38 ≡ shownAs (d .settings .profile) (d .reading)) × (width (rowAt 38) ≡ 4)
-  unfolding table entries shownAt
+  position-found : lookup 0x6004 0 ≡ At position-row
+  unfolding table lookup
+  position-found = refl
+
+  position-there : (shown d o position-row ≡ shownAs (d .settings .profile) (d .reading)) × (width position-row ≡ 4)
+  unfolding table shown
   position-there = (refl, refl)
 
   pub position-shown : reads d o 0x6004 0 ≡ some (shownAs (d .settings .profile) (d .reading))
-  position-shown = shows d o 0x6004 0 position-place (position-there .0)
+  position-shown = shows d o 0x6004 0 position-found (position-there .0)
 
   registers-shown : let register = Number (cond (not (d .reading .good)) 1 0) in Shows d o 0x1001 0 register × Shows d o 0x6503 0 register
-  unfolding table entries lookup shownAt
+  unfolding table lookup shown
   registers-shown = (shows d o 0x1001 0 refl refl, shows d o 0x6503 0 refl refl)
 
   -- a read is no segment request
-  pub read-due : (t : Transfer) (f : List ℕ) (p : ℕ) → reading f ≡ true → lookup (indexOf f) (subOf f) ≡ At p
-      → dueIn d o t f ≡ dueShown (width (rowAt p)) (shownAt d o p)
+  pub read-due : (t : Transfer) (f : List ℕ) (u : Row) → reading f ≡ true → lookup (indexOf f) (subOf f) ≡ At u
+      → dueIn d o t f ≡ dueShown (width u) (shown d o u)
   unfolding due
-  read-due t f p r q =
+  read-due t f u r q =
       uploads d o t f .other (λ s. omega (arith, eqb-true (top f) 2 r))
-      ∙ rw (q, eqb-true (top f) 2 r) (shown-due (width (rowAt p)) (shownAt d o p))
+      ∙ rw (q, eqb-true (top f) 2 r) (shown-due (width u) (shown d o u))
 
   position-due : (t : Transfer) (f : List ℕ) → reading f ≡ true → indexOf f ≡ 0x6004 → subOf f ≡ 0
       → dueIn d o t f ≡ dueShown 4 (shownAs (d .settings .profile) (d .reading))
-  position-due t f r i j = read-due t f 38 r (rw (i, j) position-place) ∙ rw (position-there .1, position-there .0)
+  position-due t f r i j = read-due t f position-row r (rw (i, j) position-found) ∙ rw (position-there .1, position-there .0)
 
 -- by the sample whose reading it is
 by-sample : (p : Profile) (s : Sensor) → shownAs p (readingOf s) ≡ shownPosition p s

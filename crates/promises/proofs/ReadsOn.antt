@@ -10,12 +10,14 @@ use mathlib.Core.Option.{some}
 use borrow.Author.Tests.{ne-eqb}
 use Rattle.can.specs.declared.Received.{Received}
 use Rattle.entries.specs.declared.Device.{Device}
-use Rattle.entries.specs.Table.{Entry, entries, rowAt, isRw, key}
+use Rattle.entries.specs.declared.table.Row.{Row}
+use Rattle.entries.specs.Table.{table, key, isRw}
+use Rattle.entries.specs.Laws.{Listed}
+use Rattle.entries.proofs.Listed.{agree}
 use Rattle.entries.specs.Keys.{errorCountKey}
 use Rattle.dictionary.specs.declared.read.Shown.{Shown}
 use Rattle.dictionary.specs.declared.read.Shown.the-variants.{Blank, Number}
-use Rattle.dictionary.specs.Reads.{noEntry, shown, shownAt, readOf}
-use Rattle.dictionary.proofs.Columns.{at-place, row-of}
+use Rattle.dictionary.specs.Reads.{shown, readOf}
 use Rattle.dictionary.specs.Effects.{readBack}
 use Rattle.sdo.specs.Request.{indexOf, subOf}
 use Rattle.parts.specs.declared.Head.{Head}
@@ -32,24 +34,20 @@ use Rattle.promises.proofs.Effects.{told, served-rightly}
 use Rattle.promises.proofs.Kept.{settings-after}
 
 module _ (d e : Device) (o u : Bool) where
-  abbrev isSetting : Entry → Bool
-  isSetting x = isRw (x .row) && not (eqb (key (x .row)) errorCountKey)
+  abbrev isSetting : Row → Bool
+  isSetting r = isRw r && not (eqb (key r) errorCountKey)
 
-  abbrev of : Device → Bool → Entry → Shown
-  of d′ o′ x = cond (isSetting x) (shown x d′ o′) Blank
+  abbrev of : Device → Bool → Row → Shown
+  of d′ o′ r = cond (isSetting r) (shown d′ o′ r) Blank
 
-  settings-shown : map (of d o) entries ≡ map (of (resetTo e (d .settings)) u) entries
-  unfolding entries
+  settings-shown : map (of d o) table ≡ map (of (resetTo e (d .settings)) u) table
+  unfolding table shown
   settings-shown = refl
 
-  shown-alike : (p : ℕ) → isRw (rowAt p) ≡ true → (key (rowAt p) ≡ errorCountKey → ⊥) → d .settings ≡ e .settings
-      → shownAt d o p ≡ shownAt e u p
-  unfolding shownAt
-  shown-alike p w n q =
-      let x = getD entries p noEntry in
-      let is : isSetting x ≡ true = rw (rw (row-of p) at w, ne-eqb (key (x .row)) errorCountKey (rw (row-of p) at n)) in
-      rw is at (at-place (of d o) (of (resetTo e (d .settings)) u) entries noEntry p refl settings-shown)
-      ∙ ap (λ s. shown x (resetTo e s) u) q
+  shown-alike : (r : Row) → Listed r → isRw r ≡ true → (key r ≡ errorCountKey → ⊥) → d .settings ≡ e .settings → shown d o r ≡ shown e u r
+  shown-alike r l w n q =
+      let is : isSetting r ≡ true = rw (w, ne-eqb (key r) errorCountKey n) in
+      rw is at (agree (of d o) (of (resetTo e (d .settings)) u) settings-shown r l) ∙ ap (λ s. shown (resetTo e s) u r) q
 
 pub reads-on : (h : Head) → Reachable h → (f : Received) (k v : ℕ) → Writes h f k v → (k ≡ errorCountKey → ⊥) → (cs : List Call)
     → None Alters (step h (receive f)) cs
@@ -62,6 +60,6 @@ reads-on h x f k v w n cs a =
     let own = served-rightly h x f (w .requests) .accepted k v (w .accepted) .own in
     let alike = shown-alike (later .core .device) (now .core .device) (isIn operational (later .core)) (isIn operational (now .core)) in
     ap (readOf (later .core .device) (isIn operational (later .core))) (t .found)
-    ∙ ap some (alike (t .place) (t .takes .writable) (λ q. n (t .key ∙ q)) (settings-after now (valid-step h (receive f) valid) cs a))
+    ∙ ap some (alike (t .its-row) (t .takes .listed) (t .takes .writable) (λ q. n (t .key ∙ q)) (settings-after now (valid-step h (receive f) valid) cs a))
     ∙ sym (ap (readOf (now .core .device) (isIn operational (now .core))) (t .found))
     ∙ own

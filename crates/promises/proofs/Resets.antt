@@ -11,12 +11,12 @@ use Rattle.entries.specs.declared.Device.{Device}
 use Rattle.entries.specs.declared.Settings.{Settings}
 use Rattle.entries.specs.declared.table.Found.{Found}
 use Rattle.entries.specs.declared.table.Found.the-variants.{At, NoSubIndex, NoIndex}
-use Rattle.entries.specs.Table.{entries, rowAt, index, lookup}
+use Rattle.entries.specs.Table.{table, index, lookup}
+use Rattle.entries.proofs.Listed.{agree}
 use Rattle.entries.proofs.Laws.{laws as entries-laws}
 use Rattle.entries.specs.Keys.{saveKey, loadKey}
 use Rattle.dictionary.specs.Accepted.{on}
-use Rattle.dictionary.specs.Reads.{noEntry, shown, shownAt, readOf, reads}
-use Rattle.dictionary.proofs.Columns.{at-place, row-of}
+use Rattle.dictionary.specs.Reads.{shown, readOf, reads}
 use Rattle.dictionary.specs.Effects.{savedBy}
 use Rattle.waiting.specs.Line as line
 use Rattle.waiting.specs.Line.{places}
@@ -51,18 +51,14 @@ module _ (d : Device) where
   abbrev due : ℕ → Device
   due i = resetTo d (settingsFor ofCommunication d i)
 
-  columns : map (λ e. shown e now false) entries ≡ map (λ e. shown e (due (index (e .row))) false) entries
-  unfolding entries
+  columns : map (λ r. shown now false r) table ≡ map (λ r. shown (due (index r)) false r) table
+  unfolding table shown
   columns = refl
 
-  shown-reset : (q : ℕ) → shownAt now false q ≡ shownAt (due (index (rowAt q))) false q
-  unfolding shownAt
-  shown-reset q =
-      at-place (λ e. shown e now false) (λ e. shown e (due (index (e .row))) false) entries noEntry q refl columns
-      ∙ ap (λ r. shownAt (due (index r)) false q) (sym (row-of q))
-
   found-reset : (i j : ℕ) (x : Found) → lookup i j ≡ x → readOf now false x ≡ readOf (due i) false x
-  found-reset i j (At q) e = ap some (shown-reset q ∙ ap (λ n. shownAt (due n) false q) (entries-laws .finds i j .at q .0 e .0 .1))
+  found-reset i j (At q) e =
+      let s = entries-laws .finds i j .at q .0 e in
+      ap some (agree (λ r. shown now false r) (λ r. shown (due (index r)) false r) columns q (s .0 .0) ∙ ap (λ n. shown (due n) false q) (s .0 .1))
   found-reset i j NoSubIndex e = refl
   found-reset i j NoIndex e = refl
 

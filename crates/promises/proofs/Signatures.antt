@@ -15,10 +15,12 @@ use Rattle.entries.specs.declared.table.Accepted.{Accepted}
 use Rattle.entries.specs.declared.table.Accepted.the-variants.{Nothing, Signature}
 use Rattle.entries.specs.declared.table.Found.the-variants.{At}
 use Rattle.entries.specs.Keys.{saveKey, loadKey}
-use Rattle.entries.specs.Table.{entries, table, noRow, rowAt, accepted, key, lookup}
+use Rattle.entries.specs.Table.{table, key, accepted, lookup}
+use Rattle.entries.specs.Laws.{Listed}
+use Rattle.entries.proofs.Listed.{agree}
+use Rattle.entries.proofs.Laws.{laws as entries-laws}
 use Rattle.dictionary.specs.Accepted.{abortCode}
 use Rattle.dictionary.specs.Laws.{Takes}
-use Rattle.dictionary.proofs.Columns.{at-place}
 use Rattle.sdo.specs.Service.{Due, confirmation}
 use Rattle.sdo.specs.Upload.{dueIn}
 use Rattle.sdo.specs.Worked.{bytes}
@@ -33,56 +35,53 @@ use Rattle.promises.proofs.Effects.{told}
 abbrev of : ℕ → Accepted → Row → Accepted
 of k a r = cond (eqb (key r) k) a Nothing
 
--- the entry of key k accepts the signature a: for each row of the table, and past its end
+-- the entry of key k accepts the signature a: for each row of the table
 abbrev Signed : ℕ → ℕ → Type 0
-Signed k a =
-    (of k (accepted noRow) noRow ≡ of k (Signature a) noRow) × (map (λ r. of k (accepted r) r) table ≡ map (of k (Signature a)) table)
+Signed k a = map (λ r. of k (accepted r) r) table ≡ map (of k (Signature a)) table
 
 save-signed : Signed saveKey 0x65766173
-unfolding entries table
-save-signed = (refl, refl)
+unfolding table
+save-signed = refl
 
 load-signed : Signed loadKey 0x64616F6C
-unfolding entries table
-load-signed = (refl, refl)
+unfolding table
+load-signed = refl
 
 module _ (k a : ℕ) (s : Signed k a) where
-  its-signature : (p : ℕ) → key (rowAt p) ≡ k → accepted (rowAt p) ≡ Signature a
-  its-signature p e =
-      let own = at-place (λ r. of k (accepted r) r) (of k (Signature a)) table noRow p (s .0) (s .1) in
-      rw (eq-eqb (key (rowAt p)) k e) at own
+  its-signature : (r : Row) → Listed r → key r ≡ k → accepted r ≡ Signature a
+  its-signature r l e = rw (eq-eqb (key r) k e) at (agree (λ q. of k (accepted q) q) (of k (Signature a)) s r l)
 
   only : (h : Head) (f : Received) (v : ℕ) → Writes h f k v → v ≡ a
   unfolding abortCode
   only h f v w =
       let t = told h f (w .accepted) in
-      let e = rw (its-signature (t .place) (sym (t .key))) at (t .takes .unaborted) in
+      let e = rw (its-signature (t .its-row) (t .takes .listed) (sym (t .key))) at (t .takes .unaborted) in
       test (eqb v a) (eqb-true v a) (λ n. absurd (omega (arith, rw n at e)))
 
--- they stand at places 12 and 14
-places : (lookup 0x1010 1 ≡ At 12) × (lookup 0x1011 1 ≡ At 14)
-unfolding entries table lookup
-places = (refl, refl)
+-- a row that is found stands in the list
+listed : (i j : ℕ) {r : Row} → lookup i j ≡ At r → Listed r
+listed i j e = entries-laws .finds i j .at _ .0 e .0 .0
 
 module _ (d : Device) (o : Bool) (t : Transfer) where
-  takes : Takes d 12 0x65766173 × Takes d 14 0x64616F6C
-  unfolding entries table abortCode
-  takes = (
-    record { stands = omega arith; writable = refl; long = omega arith; unaborted = refl },
-    record { stands = omega arith; writable = refl; long = omega arith; unaborted = refl },
-  )
+  abbrev save : List ℕ
+  save = bytes 0x23 0x10 0x10 0x01 0x73 0x61 0x76 0x65
 
-  save-due : dueIn d o t (bytes 0x23 0x10 0x10 0x01 0x73 0x61 0x76 0x65) ≡ confirmation saveKey 0x65766173
-  unfolding entries table
+  abbrev load : List ℕ
+  load = bytes 0x23 0x11 0x10 0x01 0x6C 0x6F 0x61 0x64
+
+  save-due : dueIn d o t save ≡ confirmation saveKey 0x65766173
+  unfolding table lookup abortCode
   save-due =
-      uploads d o t (bytes 0x23 0x10 0x10 0x01 0x73 0x61 0x76 0x65) .other (λ e. omega arith)
-      ∙ sdo-laws d o (bytes 0x23 0x10 0x10 0x01 0x73 0x61 0x76 0x65) .confirms 12 refl (places .0) refl (takes .0)
+      uploads d o t save .other (λ e. omega arith)
+      ∙ sdo-laws d o save .confirms _ refl refl refl
+      (record { listed = listed 0x1010 1 refl; writable = refl; long = omega arith; unaborted = refl })
 
-  load-due : dueIn d o t (bytes 0x23 0x11 0x10 0x01 0x6C 0x6F 0x61 0x64) ≡ confirmation loadKey 0x64616F6C
-  unfolding entries table
+  load-due : dueIn d o t load ≡ confirmation loadKey 0x64616F6C
+  unfolding table lookup abortCode
   load-due =
-      uploads d o t (bytes 0x23 0x11 0x10 0x01 0x6C 0x6F 0x61 0x64) .other (λ e. omega arith)
-      ∙ sdo-laws d o (bytes 0x23 0x11 0x10 0x01 0x6C 0x6F 0x61 0x64) .confirms 14 refl (places .1) refl (takes .1)
+      uploads d o t load .other (λ e. omega arith)
+      ∙ sdo-laws d o load .confirms _ refl refl refl
+      (record { listed = listed 0x1011 1 refl; writable = refl; long = omega arith; unaborted = refl })
 
 module _ (h : Head) (f : Received) (r : Requests h f) where
   abbrev dueHere : List ℕ → Due

@@ -14,10 +14,10 @@ use Rattle.names.specs.Transfer.{noTransfer}
 use Rattle.entries.specs.declared.Device.{Device}
 use Rattle.entries.specs.declared.Identity.{Identity}
 use Rattle.entries.specs.declared.table.Found.the-variants.{At}
-use Rattle.entries.specs.Table.{entries, table, noRow, rowAt, index, sub, width, lookup}
+use Rattle.entries.specs.Table.{table, noRow, rowAt, index, sub, width, lookup}
 use Rattle.entries.proofs.Laws.{laws as entries-laws}
 use Rattle.dictionary.specs.declared.read.Shown.the-variants.{Number}
-use Rattle.dictionary.specs.Reads.{noEntry, shown, shownAt, reads}
+use Rattle.dictionary.specs.Reads.{shown, reads}
 use Rattle.dictionary.specs.Accepted.{on}
 use Rattle.dictionary.specs.Writes.{written}
 use Rattle.dictionary.specs.Laws.{Shows}
@@ -79,11 +79,11 @@ module _ (n : ℕ) (i : Identity) where
   line k = getD (firstReads n i) k noLine
 
   all-of-them : map {B = ℕ × ℕ × ℕ} (λ l. (l .0, l .1, l .2)) (firstReads n i) ≡ map (λ r. (index r, sub r, width r)) table
-  unfolding entries table
+  unfolding table
   all-of-them = refl
 
-  columns : map (λ e. shown e d false) entries ≡ map (λ l. l .3) (firstReads n i)
-  unfolding entries
+  columns : map (λ r. shown d false r) table ≡ map (λ l. l .3) (firstReads n i)
+  unfolding table shown
   columns = refl
 
   -- the line at a place, and the table's row there
@@ -94,15 +94,17 @@ module _ (n : ℕ) (i : Identity) where
       all-of-them in
       (ap (λ t. t .0) e, ap (λ t. t .1) e, ap (λ t. t .2) e)
 
-  found : (k : ℕ) → k < length table → lookup (line k .0) (line k .1) ≡ At k
-  found k l = let r = row-at k in entries-laws .finds (line k .0) (line k .1) .at k .1 ((l, sym (r .0)), sym (r .1))
+  found : (k : ℕ) → k < length table → lookup (line k .0) (line k .1) ≡ At (rowAt k)
+  found k l =
+      let r = row-at k in
+      entries-laws .finds (line k .0) (line k .1) .at (rowAt k) .1 (((k, (l, refl)), sym (r .0)), sym (r .1))
 
-  shown-at : (k : ℕ) → shownAt d false k ≡ line k .3
-  unfolding shownAt
-  shown-at k = same-at (λ e. shown e d false) (λ l. l .3) entries (firstReads n i) noEntry noLine k refl columns
+  shown-at : (k : ℕ) → shown d false (rowAt k) ≡ line k .3
+  unfolding shown
+  shown-at k = same-at (λ r. shown d false r) (λ l. l .3) table (firstReads n i) noRow noLine k refl columns
 
   as-many : length (firstReads n i) ≡ length table
-  unfolding entries table
+  unfolding table
   as-many = refl
 
   -- its index is read from the request's bytes
@@ -110,7 +112,7 @@ module _ (n : ℕ) (i : Identity) where
   indices = refl
 
   module _ (k : ℕ) (l : k < length (firstReads n i)) where
-    stands : lookup (line k .0) (line k .1) ≡ At k
+    stands : lookup (line k .0) (line k .1) ≡ At (rowAt k)
     stands = found k (rw as-many at l)
 
     entry-reads : reads d false (line k .0) (line k .1) ≡ some (line k .3)
@@ -121,7 +123,7 @@ module _ (n : ℕ) (i : Identity) where
         let f = reading n (line k .0) (line k .1) .bytes in
         let its-index : indexOf f ≡ line k .0 =
         at-place (λ l. indexOf (reading n (l .0) (l .1) .bytes)) (λ l. l .0) (firstReads n i) noLine k refl indices in
-        read-due d false t f k refl (ap (λ x. lookup x (line k .1)) its-index ∙ stands)
+        read-due d false t f (rowAt k) refl (ap (λ x. lookup x (line k .1)) its-index ∙ stands)
         ∙ ap (dueShown (width (rowAt k))) (shown-at k)
         ∙ ap (λ w. dueShown w (line k .3)) (sym (row-at k .2))
 
@@ -206,7 +208,7 @@ same-identity p cs = identity-after cs (powered p) (valid-powered p) ∙ ap (λ 
 identity-shown : (d : Device) (o : Bool) → let i = d .identity in
     Shows d o 0x1018 1 (Number (i .vendor)) × Shows d o 0x1018 2 (Number (i .product)) × Shows d o 0x1018 3 (Number (i .revision))
     × Shows d o 0x1018 4 (Number (i .serial))
-unfolding entries table lookup shownAt
+unfolding table lookup shown
 identity-shown d o =
     (shows d o 0x1018 1 refl refl, shows d o 0x1018 2 refl refl, shows d o 0x1018 3 refl refl, shows d o 0x1018 4 refl refl)
 

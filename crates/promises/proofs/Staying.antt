@@ -9,17 +9,19 @@ use mathlib.Core.Option.{some}
 use Rattle.entries.specs.declared.Device.{Device}
 use Rattle.entries.specs.declared.Identity.{Identity}
 use Rattle.entries.specs.declared.Settings.{Settings}
+use Rattle.entries.specs.declared.table.Row.{Row}
 use Rattle.entries.specs.declared.table.Found.{Found}
 use Rattle.entries.specs.declared.table.Found.the-variants.{At, NoSubIndex, NoIndex}
 use Rattle.entries.specs.Settings.{factory}
-use Rattle.entries.specs.Table.{Entry, entries, table, rowAt, sub, keyOf, key, lookup}
+use Rattle.entries.specs.Table.{table, key, sub, keyOf, lookup}
+use Rattle.entries.specs.Laws.{Listed}
 use Rattle.entries.specs.Keys.{saveKey, loadKey}
 use Rattle.entries.proofs.Laws.{laws as entries-laws}
 use Rattle.dictionary.specs.declared.read.Shown.{Shown}
 use Rattle.dictionary.specs.declared.read.Shown.the-variants.{Blank, Number}
 use Rattle.dictionary.specs.Laws.{Shows}
-use Rattle.dictionary.specs.Reads.{noEntry, shown, shownAt, readOf, reads}
-use Rattle.dictionary.proofs.Columns.{at-place, row-of}
+use Rattle.dictionary.specs.Reads.{shown, readOf, reads}
+use Rattle.entries.proofs.Listed.{agree}
 use Rattle.dictionary.proofs.Laws.{shows}
 use Rattle.waiting.specs.Line.{has}
 use Rattle.parts.specs.declared.Head.{Head}
@@ -43,31 +45,27 @@ use Rattle.promises.proofs.Starts.{powered-is, saved-is, identity-after
 
 module _ (d e : Device) (o u : Bool) where
   -- what an entry reads that shows neither samples nor the state
-  abbrev of : Device → Bool → Entry → Shown
-  of d′ o′ x = cond (has (key (x .row)) telling) Blank (shown x d′ o′)
+  abbrev of : Device → Bool → Row → Shown
+  of d′ o′ w = cond (has (key w) telling) Blank (shown d′ o′ w)
 
   -- these settings and this identity, all else of e
   abbrev with : Settings → Identity → Device
   with s i = record { node = e .node; identity = i; reading = e .reading; errors = e .errors; settings = s; saved = e .saved }
 
-  columns : map (of d o) entries ≡ map (of (with (d .settings) (d .identity)) u) entries
-  unfolding entries
+  columns : map (of d o) table ≡ map (of (with (d .settings) (d .identity)) u) table
+  unfolding table shown
   columns = refl
 
   module _ (q : d .settings ≡ e .settings) (r : d .identity ≡ e .identity) where
-    shown-alike : (p : ℕ) → has (key (rowAt p)) telling ≡ false → shownAt d o p ≡ shownAt e u p
-    unfolding shownAt
-    shown-alike p n =
-        let x = getD entries p noEntry in
-        let is : has (key (x .row)) telling ≡ false = rw (row-of p) at n in
-        rw is at (at-place (of d o) (of (with (d .settings) (d .identity)) u) entries noEntry p refl columns)
-        ∙ ap₂ (λ s i. shown x (with s i) u) q r
+    shown-alike : (w : Row) → Listed w → has (key w) telling ≡ false → shown d o w ≡ shown e u w
+    shown-alike w l n =
+        rw n at (agree (of d o) (of (with (d .settings) (d .identity)) u) columns w l) ∙ ap₂ (λ s i. shown (with s i) u w) q r
 
     found-alike : (i j : ℕ) (x : Found) → lookup i j ≡ x → has (keyOf i j) telling ≡ false → readOf d o x ≡ readOf e u x
-    found-alike i j (At p) f n =
-        let s = entries-laws .finds i j .at p .0 f in
-        let its-key : keyOf i j ≡ key (rowAt p) = sym (ap (λ m. keyOf m (sub (rowAt p))) (s .0 .1) ∙ ap (keyOf i) (s .1)) in
-        ap some (shown-alike p (subst (λ k. has k telling ≡ false) its-key n))
+    found-alike i j (At w) f n =
+        let s = entries-laws .finds i j .at w .0 f in
+        let its-key : keyOf i j ≡ key w = sym (entries-laws .keys w ∙ ap (λ m. keyOf m (sub w)) (s .0 .1) ∙ ap (keyOf i) (s .1)) in
+        ap some (shown-alike w (s .0 .0) (subst (λ k. has k telling ≡ false) its-key n))
     found-alike i j NoSubIndex f n = refl
     found-alike i j NoIndex f n = refl
 
@@ -76,7 +74,7 @@ module _ (d e : Device) (o u : Bool) where
 
 both-shown : (d : Device) (o : Bool) → let v = d .settings .profile .operating in
     Shows d o 0x6000 0 (Number v) × Shows d o 0x6500 0 (Number (v + cond o 0x8000 0))
-unfolding entries table lookup shownAt
+unfolding table lookup shown
 both-shown d o = (shows d o 0x6000 0 refl refl, shows d o 0x6500 0 refl refl)
 
 -- A reset restores what entries read in the head whose settings are the saved set.

@@ -1,7 +1,7 @@
 -- Proves 01's worked numbers from the definitions, by computation.
 use mathlib.Core.Path.{refl}
-use Rattle.entries.specs.Table.{entries, table, lookup}
-use Rattle.dictionary.specs.Reads.{shownAt}
+use Rattle.entries.specs.Table.{table, lookup}
+use Rattle.dictionary.specs.Reads.{shown}
 use Rattle.dictionary.specs.Writes.{written}
 use Rattle.sdo.specs.Service.{due}
 use Rattle.sdo.specs.Upload.{dueIn}
@@ -9,9 +9,9 @@ use Rattle.promises.specs.Acts.{settledTo, act}
 use Rattle.promises.specs.Worked.{Worked, Printed}
 
 pub worked : Worked
-unfolding entries table lookup shownAt written due dueIn act settledTo
+unfolding table lookup shown written due dueIn act settledTo
 worked = refl
 
 pub printed : Printed
-unfolding entries table lookup shownAt written due dueIn act settledTo
+unfolding table lookup shown written due dueIn act settledTo
 printed = refl

@@ -7,7 +7,8 @@ use mathlib.Core.Bool.{true, cond}
 use mathlib.Core.List.{List, [], _∷_}
 use mathlib.Core.Option.{some}
 use Rattle.can.specs.declared.Received.{Received}
-use Rattle.entries.specs.Table.{rowAt, width}
+use Rattle.entries.specs.declared.table.Row.{Row}
+use Rattle.entries.specs.Table.{width}
 use Rattle.entries.specs.Laws.{Stands}
 use Rattle.dictionary.specs.declared.read.Shown.{Shown}
 use Rattle.sdo.specs.Request.{indexOf, subOf, reading}
@@ -54,7 +55,7 @@ offsetBy p d = cond (ltb p d) (0x100000000 - (d - p)) (p - d)
 pub record ByEntries : Type 0 where
   -- A read gets what the entry reads, in its bytes; 7. of a blank 0800 0024h.
   pub asked : (h : Head) (f : Received) (s : Shown) → let i = indexOf (f .bytes) in let j = subOf (f .bytes) in
-      reading (f .bytes) ≡ true → readsIn h i j ≡ some s → (p : ℕ) × Stands p i j × (dueTo h f ≡ dueShown (width (rowAt p)) s)
+      reading (f .bytes) ≡ true → readsIn h i j ≡ some s → (r : Row) × Stands r i j × (dueTo h f ≡ dueShown (width r) s)
   -- 6004-0 is the position, computed from the other entries and the last sample
   pub position : (p : PowerUp) (cs : List Call) → let h = after (powered p) cs in (x : Scale) → ReadsScale h x → (r : ℕ)
       → lastSample Missing cs ≡ Raw r → Reads h 0x6004 0 (positionBy x r)

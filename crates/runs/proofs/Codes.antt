@@ -1,7 +1,7 @@
 -- Proves `CodesMet` of specs/Codes.antt by computation.
 use mathlib.Core.Path.{refl}
-use Rattle.entries.specs.Table.{entries, table, lookup}
-use Rattle.dictionary.specs.Reads.{shownAt}
+use Rattle.entries.specs.Table.{table, lookup}
+use Rattle.dictionary.specs.Reads.{shown}
 use Rattle.dictionary.specs.Writes.{written}
 use Rattle.sdo.specs.Service.{due}
 use Rattle.sdo.specs.Upload.{dueIn}
@@ -10,7 +10,7 @@ use Rattle.promises.specs.Acts.{reset, settledTo, act}
 use Rattle.runs.specs.Codes.{CodesMet}
 
 pub codes-met : CodesMet
-unfolding entries table lookup shownAt written due dueIn act settledTo
+unfolding table lookup shown written due dueIn act settledTo
 codes-met =
     record {
       pre-operational = record { is-first = refl; its-code = refl; sent = refl };

@@ -9,11 +9,12 @@ use Rattle.cases.proofs.Cases.{Each, _▸_, end}
 use Rattle.cases.specs.Padded.{pad}
 use Rattle.entries.specs.declared.Reading.{Reading}
 use Rattle.entries.specs.declared.Settings.{Settings}
+use Rattle.entries.specs.declared.table.Row.{Row}
 use Rattle.entries.specs.declared.table.Found.the-variants.{At}
 use Rattle.entries.specs.Settings.{pdo, factory}
-use Rattle.entries.specs.Table.{entries, table, lookup}
+use Rattle.entries.specs.Table.{table, lookup}
 use Rattle.dictionary.specs.Accepted.{abortCode}
-use Rattle.dictionary.specs.Reads.{shownAt}
+use Rattle.dictionary.specs.Reads.{shown}
 use Rattle.dictionary.specs.Writes.{written}
 use Rattle.dictionary.specs.Worked.{save, load, writes as allWrites}
 use Rattle.sdo.specs.Request.{indexOf, subOf}
@@ -92,15 +93,15 @@ unfolding act settledTo
 to-fresh = refl
 
 to-one-off : after fresh off1 ≡ one-off
-unfolding entries table lookup written due dueIn act settledTo
+unfolding table lookup written due dueIn act settledTo
 to-one-off = refl
 
 to-both-off : after one-off off2 ≡ both-off
-unfolding entries table lookup written due dueIn act settledTo
+unfolding table lookup written due dueIn act settledTo
 to-both-off = refl
 
 to-scaled : after both-off scale ≡ scaled
-unfolding entries table lookup written due dueIn act settledTo
+unfolding table lookup written due dueIn act settledTo
 to-scaled = refl
 
 ready-is : after node1 ready ≡ scaled
@@ -113,31 +114,31 @@ module _ (w : ℕ × ℕ) where
   abbrev f : List ℕ
   f = writing w .bytes
 
-  found : (p : ℕ) → lookup (indexOf f) (subOf f) ≡ At p → dueOf (scaled .core .device) false f (At p) ≡ confirmation (w .0) (w .1)
+  found : (r : Row) → lookup (indexOf f) (subOf f) ≡ At r → dueOf (scaled .core .device) false f (At r) ≡ confirmation (w .0) (w .1)
       → dueTo scaled (writing w) ≡ confirmation (w .0) (w .1)
   unfolding due dueIn
-  found p e a = ap (dueOf (scaled .core .device) false f) e ∙ a
+  found r e a = ap (dueOf (scaled .core .device) false f) e ∙ a
 
 each-written : Each (λ w. dueTo scaled (writing w) ≡ confirmation (w .0) (w .1)) allWrites
-unfolding entries table lookup
+unfolding table lookup
 each-written =
-    found (0x1003_00, 0) 2 refl refl
-    ▸ found (0x1010_01, save) 12 refl refl
-    ▸ found (0x1011_01, load) 14 refl refl
-    ▸ found (0x1014_00, 0x80000081) 15 refl refl
-    ▸ found (0x1015_00, 10) 16 refl refl
-    ▸ found (0x1017_00, 1000) 17 refl refl
-    ▸ found (0x1800_01, 0x181) 24 refl refl
-    ▸ found (0x1800_02, 240) 25 refl refl
-    ▸ found (0x1800_05, 7) 26 refl refl
-    ▸ found (0x1801_01, 0x57F) 28 refl refl
-    ▸ found (0x1801_02, 255) 29 refl refl
-    ▸ found (0x1801_05, 65535) 30 refl refl
-    ▸ found (0x6000_00, 12) 35 refl refl
-    ▸ found (0x6002_00, 1000) 36 refl refl
-    ▸ found (0x6003_00, 999999) 37 refl refl
-    ▸ found (0x6005_01, 10000) 40 refl refl
-    ▸ found (0x6200_00, 8) 41 refl refl
+    found (0x1003_00, 0) _ refl refl
+    ▸ found (0x1010_01, save) _ refl refl
+    ▸ found (0x1011_01, load) _ refl refl
+    ▸ found (0x1014_00, 0x80000081) _ refl refl
+    ▸ found (0x1015_00, 10) _ refl refl
+    ▸ found (0x1017_00, 1000) _ refl refl
+    ▸ found (0x1800_01, 0x181) _ refl refl
+    ▸ found (0x1800_02, 240) _ refl refl
+    ▸ found (0x1800_05, 7) _ refl refl
+    ▸ found (0x1801_01, 0x57F) _ refl refl
+    ▸ found (0x1801_02, 255) _ refl refl
+    ▸ found (0x1801_05, 65535) _ refl refl
+    ▸ found (0x6000_00, 12) _ refl refl
+    ▸ found (0x6002_00, 1000) _ refl refl
+    ▸ found (0x6003_00, 999999) _ refl refl
+    ▸ found (0x6005_01, 10000) _ refl refl
+    ▸ found (0x6200_00, 8) _ refl refl
     ▸ end
 
 in-turn : {A B : Type 0} (f g : A → B) {l : List A} → Each (λ a. f a ≡ g a) l → map f l ≡ map g l
@@ -145,7 +146,7 @@ in-turn f g end = refl
 in-turn f g (e ▸ es) = ap₂ _∷_ e (in-turn f g es)
 
 pub met : MetWhenReady
-unfolding entries table lookup abortCode shownAt due dueIn
+unfolding table lookup abortCode shown due dueIn
 met =
     subst Met (sym ready-is)
     (record {

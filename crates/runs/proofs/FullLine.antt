@@ -1,8 +1,8 @@
 -- Proves `FullLine` of specs/FullLine.antt by computation.
 use mathlib.Core.Path.{refl}
 use mathlib.Core.List.{[], _∷_, _++_}
-use Rattle.entries.specs.Table.{entries, table, lookup}
-use Rattle.dictionary.specs.Reads.{shownAt}
+use Rattle.entries.specs.Table.{table, lookup}
+use Rattle.dictionary.specs.Reads.{shown}
 use Rattle.dictionary.specs.Writes.{written}
 use Rattle.sdo.specs.Service.{due}
 use Rattle.sdo.specs.Upload.{dueIn}
@@ -13,7 +13,7 @@ use Rattle.runs.specs.FullLine.{begun, full, FullLine}
 use Rattle.runs.proofs.Node1.{reached}
 
 pub full-line : FullLine
-unfolding entries table lookup shownAt written due dueIn act settledTo
+unfolding table lookup shown written due dueIn act settledTo
 full-line =
     record {
       no-slot = refl;

@@ -2,8 +2,8 @@
 use Prim.Native.Nat.{suc, _%_}
 use native.Mathlib.Omega.{arith}
 use mathlib.Core.Path.{refl, ap}
-use Rattle.entries.specs.Table.{entries, table, lookup}
-use Rattle.dictionary.specs.Reads.{shownAt}
+use Rattle.entries.specs.Table.{table, lookup}
+use Rattle.dictionary.specs.Reads.{shown}
 use Rattle.dictionary.specs.Writes.{written}
 use Rattle.sdo.specs.Service.{due}
 use Rattle.sdo.specs.Upload.{dueIn}
@@ -15,7 +15,7 @@ use Rattle.promises.specs.PassedOver.{syncs}
 use Rattle.runs.specs.Joining.{Joining}
 
 pub joining : Joining
-unfolding entries table lookup shownAt written due dueIn act settledTo
+unfolding table lookup shown written due dueIn act settledTo
 joining =
     record {
       beats = refl;

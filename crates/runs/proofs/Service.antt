@@ -1,7 +1,7 @@
 -- Proves `Serving` of specs/Service.antt by computation.
 use mathlib.Core.Path.{refl}
-use Rattle.entries.specs.Table.{entries, table, lookup}
-use Rattle.dictionary.specs.Reads.{shownAt}
+use Rattle.entries.specs.Table.{table, lookup}
+use Rattle.dictionary.specs.Reads.{shown}
 use Rattle.dictionary.specs.Writes.{written}
 use Rattle.sdo.specs.Service.{due}
 use Rattle.sdo.specs.Upload.{dueIn}
@@ -10,7 +10,7 @@ use Rattle.promises.proofs.Service.{is-request}
 use Rattle.runs.specs.Service.{Serving}
 
 pub serving : Serving
-unfolding entries table lookup shownAt written due dueIn act settledTo
+unfolding table lookup shown written due dueIn act settledTo
 serving =
     record {
       requests = is-request _ _ .0 refl;

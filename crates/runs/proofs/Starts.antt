@@ -4,8 +4,8 @@ use native.Mathlib.Omega.{arith}
 use mathlib.Core.Path.{refl, ap}
 use mathlib.Core.Logic.{inr, ⊎-elim}
 use borrow.Author.Tests.{eqb-false}
-use Rattle.entries.specs.Table.{entries, table, lookup}
-use Rattle.dictionary.specs.Reads.{shownAt}
+use Rattle.entries.specs.Table.{table, lookup}
+use Rattle.dictionary.specs.Reads.{shown}
 use Rattle.dictionary.specs.Writes.{written}
 use Rattle.sdo.specs.Service.{Due, none, value, upload, confirmation, abort, due}
 use Rattle.sdo.specs.Upload.{dueIn}
@@ -29,7 +29,7 @@ keyIn (confirmation k v) = k
 keyIn (abort code) = 0
 
 pub starts-met : StartsMet
-unfolding entries table lookup shownAt written due dueIn act settledTo
+unfolding table lookup shown written due dueIn act settledTo
 starts-met =
     record {
       none-saves = (λ x. x, (λ x. x, (unsaving, (λ x. x, tt))));

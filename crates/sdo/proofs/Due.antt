@@ -6,16 +6,15 @@ use mathlib.Core.Path.{_≡_, refl, sym, _∙_}
 use mathlib.Core.Bool.{Bool, true, false, not, _&&_, cond}
 use mathlib.Core.List.{List}
 use lib.Dec.{eqb, ltb}
-use lib.ListN.{getD}
 use borrow.Author.Tests.{eqb-true, ne-eqb, le-ltb}
 use Rattle.cases.proofs.Cases.{true-false}
 use Rattle.entries.specs.declared.Device.{Device}
 use Rattle.entries.specs.declared.table.Found.{Found}
 use Rattle.entries.specs.declared.table.Found.the-variants.{At, NoSubIndex, NoIndex}
-use Rattle.entries.specs.Table.{table, noRow, keyOf, lookup}
+use Rattle.entries.specs.Table.{key, width, isRw, accepted, lookup}
 use Rattle.dictionary.specs.declared.read.Shown.{Shown}
 use Rattle.dictionary.specs.declared.read.Shown.the-variants.{Blank, Number}
-use Rattle.dictionary.specs.Reads.{shownAt}
+use Rattle.dictionary.specs.Reads.{shown}
 use Rattle.dictionary.specs.Accepted.{acceptsIn, isSignature, barred, abortCode}
 use Rattle.dictionary.specs.AbortCodes.{invalidValue, wrongSignature, deviceState}
 use Rattle.sdo.specs.AbortCodes.{readOnly, tooLong, tooShort, shownCode}
@@ -79,15 +78,15 @@ module _ (d : Device) (o : Bool) (f : List ℕ) (n : aborting f ≡ false) where
   by-found x true true a b q = true-false (sym b ∙ not-both (byte f 0 / 32) _ a)
   by-found NoIndex true false a b q = rw (n, a, q)
   by-found NoSubIndex true false a b q = rw (n, a, q)
-  by-found (At p) true false a b q = rw (n, a, b, q) (read-due f (getD table p noRow .2) (shownAt d o p))
+  by-found (At r) true false a b q = rw (n, a, b, q) (read-due f (width r) (shown d o r))
   by-found NoIndex false true a b q = rw (n, a, b, q)
   by-found NoSubIndex false true a b q = rw (n, a, b, q)
-  by-found (At p) false true a b q =
-      let r = getD table p noRow in
-      let v = cutTo (r .2) (dataOf f) in
-      rw (n, a, b, q, length-is (eqb (byte f 0 % 2) 1) (byte f 0 / 4) (r .2))
-      (write-due f (keyOf (r .0) (r .1)) v (r .3) (ltb (r .2) (lengthOf f (r .2))) (ltb (lengthOf f (r .2)) (r .2))
-      (acceptsIn d r v) (isSignature (r .4)) (barred d (keyOf (r .0) (r .1)) v))
+  by-found (At r) false true a b q =
+      let w = width r in
+      let v = cutTo w (dataOf f) in
+      rw (n, a, b, q, length-is (eqb (byte f 0 % 2) 1) (byte f 0 / 4) w)
+      (write-due f (key r) v (isRw r) (ltb w (lengthOf f w)) (ltb (lengthOf f w) w)
+      (acceptsIn d r v) (isSignature (accepted r)) (barred d (key r) v))
   by-found x false false a b q = rw (n, a, b)
 
   pub reply-due : replyTo d o f (takenApart f) ≡ answer f (due d o f)

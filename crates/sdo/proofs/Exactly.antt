@@ -5,16 +5,18 @@ use mathlib.Core.Path.{_≡_, refl, sym, ap, subst, _∙_}
 use mathlib.Core.Bool.{Bool, true, false, not, _&&_, cond}
 use mathlib.Core.List.{List, [], _∷_}
 use lib.Dec.{eqb, ltb}
-use lib.ListN.{length, getD}
+use lib.ListN.{getD}
 use borrow.Author.Tests.{eqb-true, eqb-false, ltb-true, lt-ltb, le-ltb, not-true, not-false}
 use Rattle.cases.specs.Cases.{firstOf}
 use Rattle.cases.proofs.Cases.{by, true-false, both}
 use Rattle.can.specs.Number.{number, AreBytes}
 use Rattle.entries.specs.declared.Device.{Device}
-use Rattle.entries.specs.Table.{table, rowAt, width, isRw, accepted, key}
+use Rattle.entries.specs.declared.table.Row.{Row}
+use Rattle.entries.specs.Table.{key, width, isRw, accepted}
+use Rattle.entries.specs.Laws.{Listed}
 use Rattle.dictionary.specs.declared.read.Shown.{Shown}
 use Rattle.dictionary.specs.declared.read.Shown.the-variants.{Blank, Number}
-use Rattle.dictionary.specs.Reads.{shownAt}
+use Rattle.dictionary.specs.Reads.{shown}
 use Rattle.dictionary.specs.Accepted.{acceptsIn, isSignature, barred}
 use Rattle.sdo.specs.Request.{dataOf}
 use Rattle.sdo.specs.Service.{Due, none, value, confirmation, abort, upload, isBlank, numberIn, lengthOf, cutTo, due}
@@ -30,7 +32,7 @@ byte-at [] h k = omega arith
 byte-at (b ∷ bs) h zero = h .0
 byte-at (b ∷ bs) h (suc k) = byte-at bs (h .1) k
 
-cut-is : (f : List ℕ) → AreBytes f → (p : ℕ) → p < length table → cutTo (width (rowAt p)) (dataOf f) ≡ S.content f p
+cut-is : (f : List ℕ) → AreBytes f → (r : Row) → Listed r → cutTo (width r) (dataOf f) ≡ S.content f r
 cut-is f h =
     let a = byte-at f h 4 in
     let b = byte-at f h 5 in
@@ -61,11 +63,11 @@ length-is true b n w e h = h (eqb-true b 1 e)
 length-is false b n w e h = refl
 
 module _ (d : Device) (o : Bool) (f : List ℕ) (bytes : AreBytes f) where
-  cut : (p : ℕ) → S.WritesTo f p → writeDue d o f (rowAt p) (cutTo (width (rowAt p)) (dataOf f)) ≡ writeDue d o f (rowAt p) (S.content f p)
-  cut p h = ap (writeDue d o f (rowAt p)) (cut-is f bytes p (h .1 .0 .0))
+  cut : (r : Row) → S.WritesTo f r → writeDue d o f r (cutTo (width r) (dataOf f)) ≡ writeDue d o f r (S.content f r)
+  cut r h = ap (writeDue d o f r) (cut-is f bytes r (h .1 .0 .0))
 
-  writes-content : (p : ℕ) → S.WritesTo f p → due d o f ≡ writeDue d o f (rowAt p) (S.content f p)
-  writes-content p h = writes d o f p h ∙ cut p h
+  writes-content : (r : Row) → S.WritesTo f r → due d o f ≡ writeDue d o f r (S.content f r)
+  writes-content r h = writes d o f r h ∙ cut r h
 
   -- what each reply tells
   abbrev Reason : ℕ → Type 0
@@ -96,33 +98,32 @@ module _ (d : Device) (o : Bool) (f : List ℕ) (bytes : AreBytes f) where
       (signature-so : S.WrongSignature d f → P (abort 0x08000020)) (state-so : S.Barred d f → P (abort 0x08000022))
       (blank-so : S.BlankRead d o f → P (abort 0x08000024)) (read-so : (w n : ℕ) → S.ValueRead d o f w n → P (value w n))
       (written-so : (k v : ℕ) → S.ValueWritten d f k v → P (confirmation k v)) where
-    read-each : (p : ℕ) → S.ReadsFrom f p → (s : Shown) → shownAt d o p ≡ s
-        → P (cond (isBlank s) (abort 0x08000024) (value (width (rowAt p)) (numberIn s)))
-    read-each p h Blank e = blank-so (p, (h, e))
-    read-each p h (Number n) e = read-so (width (rowAt p)) n (p, (h, (refl, e)))
+    read-each : (r : Row) → S.ReadsFrom f r → (s : Shown) → shown d o r ≡ s
+        → P (cond (isBlank s) (abort 0x08000024) (value (width r) (numberIn s)))
+    read-each r h Blank e = blank-so (r, (h, e))
+    read-each r h (Number n) e = read-so (width r) n (r, (h, (refl, e)))
 
-    write-each : (p : ℕ) → S.WritesTo f p → P (writeDue d o f (rowAt p) (S.content f p))
-    write-each p h =
-        let r = rowAt p in
-        let v = S.content f p in
+    write-each : (r : Row) → S.WritesTo f r → P (writeDue d o f r (S.content f r))
+    write-each r h =
+        let v = S.content f r in
         let b = getD f 0 0 in
-        by P (not (isRw r)) (λ e. ro-so (p, (h, not-true (isRw r) e))) (λ rw.
-        let writable : S.WritesRw f p = (h, not-false (isRw r) rw) in
-        by P (ltb (width r) (lengthOf f (width r))) (λ e. long-so (p, (writable, is-longer _ (b % 2) _ (width r) refl e))) (λ long.
-        by P (ltb (lengthOf f (width r)) (width r)) (λ e. short-so (p, (writable, is-shorter _ (b % 2) _ (width r) refl e))) (λ short.
-        let fitting : S.WritesLength f p = (writable, is-as-long _ (b % 2) _ (width r) refl long short) in
+        by P (not (isRw r)) (λ e. ro-so (r, (h, not-true (isRw r) e))) (λ rw.
+        let writable : S.WritesRw f r = (h, not-false (isRw r) rw) in
+        by P (ltb (width r) (lengthOf f (width r))) (λ e. long-so (r, (writable, is-longer _ (b % 2) _ (width r) refl e))) (λ long.
+        by P (ltb (lengthOf f (width r)) (width r)) (λ e. short-so (r, (writable, is-shorter _ (b % 2) _ (width r) refl e))) (λ short.
+        let fitting : S.WritesLength f r = (writable, is-as-long _ (b % 2) _ (width r) refl long short) in
         by P (not (acceptsIn d r v) && isSignature (accepted r))
-        (λ e. let a = both _ _ e in signature-so (p, ((fitting, not-true _ (a .0)), signs f p (h .1) .0 (a .1)))) (λ signed.
+        (λ e. let a = both _ _ e in signature-so (r, ((fitting, not-true _ (a .0)), signs f r (h .1) .0 (a .1)))) (λ signed.
         by P (not (acceptsIn d r v))
-        (λ e. value-so (p, ((fitting, not-true _ e), signs-not f p (h .1) .0 (left _ _ e signed)))) (λ accepted.
-        let takes : S.WritesValue d f p = (fitting, not-false _ accepted) in
-        by P (barred d (key r) v) (λ e. state-so (p, (takes, e))) (λ e. written-so (key r) v (p, (takes, (e, (refl, refl))))))))))
+        (λ e. value-so (r, ((fitting, not-true _ e), signs-not f r (h .1) .0 (left _ _ e signed)))) (λ accepted.
+        let takes : S.WritesValue d f r = (fitting, not-false _ accepted) in
+        by P (barred d (key r) v) (λ e. state-so (r, (takes, e))) (λ e. written-so (key r) v (r, (takes, (e, (refl, refl))))))))))
 
     -- a property of each reply in its own case is a property of what is due
     each-reply : P (due d o f)
     each-reply =
-        each-way d o f P none-so unknown-so no-index-so no-sub-index-so (λ p h. read-each p h (shownAt d o p) refl)
-        (λ p h. subst P (sym (cut p h)) (write-each p h))
+        each-way d o f P none-so unknown-so no-index-so no-sub-index-so (λ r h. read-each r h (shown d o r) refl)
+        (λ r h. subst P (sym (cut r h)) (write-each r h))
 
   tells : Tells (due d o f)
   tells =
@@ -133,33 +134,33 @@ module _ (d : Device) (o : Bool) (f : List ℕ) (bytes : AreBytes f) where
   told x e = subst Tells e tells
 
   -- a write that has its length
-  fitting : (p : ℕ) → S.WritesLength f p → lengthOf f (width (rowAt p)) ≡ width (rowAt p)
-  fitting p h = length-is _ (getD f 0 0 % 2) _ (width (rowAt p)) refl (h .1)
+  fitting : (r : Row) → S.WritesLength f r → lengthOf f (width r) ≡ width r
+  fitting r h = length-is _ (getD f 0 0 % 2) _ (width r) refl (h .1)
 
   write-to-ro : S.WriteToRo f → due d o f ≡ abort 0x06010002
-  write-to-ro (p, (h, e)) = writes-content p h ∙ rw e
+  write-to-ro (r, (h, e)) = writes-content r h ∙ rw e
 
   too-long : S.TooLong f → due d o f ≡ abort 0x06070012
-  too-long (p, ((h, e), (b, l))) = writes-content p h ∙ rw (e, b, lt-ltb _ _ l)
+  too-long (r, ((h, e), (b, l))) = writes-content r h ∙ rw (e, b, lt-ltb _ _ l)
 
   too-short : S.TooShort f → due d o f ≡ abort 0x06070013
-  too-short (p, ((h, e), (b, l))) =
-      writes-content p h ∙ rw (e, b, le-ltb (width (rowAt p)) (4 - getD f 0 0 / 4 % 4) (omega arith), lt-ltb _ _ l)
+  too-short (r, ((h, e), (b, l))) =
+      writes-content r h ∙ rw (e, b, le-ltb (width r) (4 - getD f 0 0 / 4 % 4) (omega arith), lt-ltb _ _ l)
 
   -- passes steps 3 and 4
-  as-long : (p : ℕ) → S.WritesLength f p → due d o f
+  as-long : (r : Row) → S.WritesLength f r → due d o f
       ≡ firstOf (
-      (not (acceptsIn d (rowAt p) (S.content f p)) && isSignature (accepted (rowAt p)), abort 0x08000020) ∷
-      (not (acceptsIn d (rowAt p) (S.content f p)), abort 0x06090030) ∷
-      (barred d (key (rowAt p)) (S.content f p), abort 0x08000022) ∷ [])
-      (confirmation (key (rowAt p)) (S.content f p))
-  as-long p h = writes-content p (h .0 .0) ∙ rw (h .0 .1, fitting p h, le-ltb (width (rowAt p)) (width (rowAt p)) (omega arith))
+      (not (acceptsIn d r (S.content f r)) && isSignature (accepted r), abort 0x08000020) ∷
+      (not (acceptsIn d r (S.content f r)), abort 0x06090030) ∷
+      (barred d (key r) (S.content f r), abort 0x08000022) ∷ [])
+      (confirmation (key r) (S.content f r))
+  as-long r h = writes-content r (h .0 .0) ∙ rw (h .0 .1, fitting r h, le-ltb (width r) (width r) (omega arith))
 
   wrong-value : S.WrongValue d f → due d o f ≡ abort 0x06090030
-  wrong-value (p, ((h, a), n)) = as-long p h ∙ rw (a, signs-not f p (h .0 .0 .1) .1 n)
+  wrong-value (r, ((h, a), n)) = as-long r h ∙ rw (a, signs-not f r (h .0 .0 .1) .1 n)
 
   wrong-signature : S.WrongSignature d f → due d o f ≡ abort 0x08000020
-  wrong-signature (p, ((h, a), s)) = as-long p h ∙ rw (a, signs f p (h .0 .0 .1) .1 s)
+  wrong-signature (r, ((h, a), s)) = as-long r h ∙ rw (a, signs f r (h .0 .0 .1) .1 s)
 
   pub exactly : Exactly d o f (due d o f)
   exactly =

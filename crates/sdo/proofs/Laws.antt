@@ -12,11 +12,13 @@ use Rattle.cases.proofs.Cases.{by, test, true-false, both, first-each, _▸_, e
 use Rattle.can.specs.Number.{lowFirst}
 use Rattle.can.proofs.Number.{numbers}
 use Rattle.entries.specs.declared.Device.{Device}
+use Rattle.entries.specs.declared.table.Row.{Row}
 use Rattle.entries.specs.declared.table.Found.{Found}
 use Rattle.entries.specs.declared.table.Found.the-variants.{At, NoSubIndex, NoIndex}
-use Rattle.entries.specs.Table.{entries, table, rowAt, width, key, lookup}
+use Rattle.entries.specs.Table.{key, width, whenBlank, source, isBlank, numberOf, lookup}
+use Rattle.entries.specs.Laws.{Listed}
 use Rattle.dictionary.specs.declared.read.Shown.the-variants.{Blank, Number}
-use Rattle.dictionary.specs.Reads.{noEntry, shownAt}
+use Rattle.dictionary.specs.Reads.{shown}
 use Rattle.dictionary.specs.Valid.{ValidDevice}
 use Rattle.dictionary.specs.Laws.{Takes}
 use Rattle.dictionary.proofs.Accepted.{taken as accepted}
@@ -27,7 +29,7 @@ use Rattle.sdo.specs.Reply.{command, replies, carriedOut}
 use Rattle.sdo.specs.Service.{Due, none, value, confirmation, abort, upload, answer, lengthOf, cutTo, steps, dueOf, due}
 use Rattle.sdo.specs.Exactly.{ClientAborts, firstData}
 use Rattle.sdo.specs.Laws.{Told, Alike, Answers, served, Laws}
-use Rattle.sdo.proofs.Place.{entry}
+use Rattle.sdo.proofs.Asked.{entry}
 use Rattle.sdo.proofs.Told.{told}
 use Rattle.sdo.proofs.Taken.{taken}
 use Rattle.sdo.proofs.Exactly.{exactly, only}
@@ -51,7 +53,7 @@ module _ (d : Device) (o : Bool) (f : List ℕ) where
   valid-by : (x : Found) (y : Due) → Told d o f x y → ValidDevice d → ValidDevice (carriedOut d (answer f y .effect))
   valid-by x none t h = h
   valid-by x (value w n) t h = h
-  valid-by x (confirmation k v) t h = rw (t .key) (dictionaryLaws .written-valid d (t .place) v (t .takes) h)
+  valid-by x (confirmation k v) t h = rw (t .key) (dictionaryLaws .written-valid d (t .its-row) v (t .takes) h)
   valid-by x (abort c) t h = h
   valid-by x (upload b u) t h = h
 
@@ -97,11 +99,11 @@ module _ (d : Device) (o : Bool) (f : List ℕ) where
   number-is false m n e = cc
 
   unused-by : (x : Found) (w n : ℕ) → Told d o f x (value w n) → ValidDevice d → w ≤ 4 → lowFirst 4 n ≡ lowFirst w n ++ replicate (4 - w) 0
-  unfolding shownAt
+  unfolding shown
   unused-by x w n t h short =
-      let e = getD entries (t .place) noEntry in
-      let m : e .number d o ≡ n = number-is (e .blank d) (e .number d o) n (t .shown) in
-      let fits : n < 256 ^ w = rw (← m, t .its-width) (dictionaryLaws .typed d o (t .place) (t .stands) h) in
+      let r = t .its-row in
+      let m : numberOf (source r) d o ≡ n = number-is (isBlank (whenBlank r) d) (numberOf (source r) d o) n (t .shows) in
+      let fits : n < 256 ^ w = rw (← m, t .its-width) (dictionaryLaws .typed d o r (t .listed) h) in
       let four : w + (4 - w) ≡ 4 = omega arith in
       ap (λ (k : ℕ). lowFirst k n) (sym four) ∙ numbers .unused w (4 - w) n fits
 
@@ -176,8 +178,8 @@ nth : (k : ℕ) {a b : List ℕ} → a ≡ b → getD a k 0 ≡ getD b k 0
 nth k e = ap (λ (l : List ℕ). getD l k 0) e
 
 -- data past the entry's length do not change the value
-same-cut : (f g : List ℕ) (p : ℕ) → p < length table → firstData (width (rowAt p)) f ≡ firstData (width (rowAt p)) g
-    → cutTo (rowAt p .2) (dataOf f) ≡ cutTo (rowAt p .2) (dataOf g)
+same-cut : (f g : List ℕ) (r : Row) → Listed r → firstData (width r) f ≡ firstData (width r) g
+    → cutTo (width r) (dataOf f) ≡ cutTo (width r) (dataOf g)
 same-cut f g =
     each-width (λ w. firstData w f ≡ firstData w g → cutTo w (dataOf f) ≡ cutTo w (dataOf g))
     (λ e. omega (arith, nth 0 e))
@@ -203,16 +205,16 @@ module _ (d : Device) (o : Bool) (f g : List ℕ) (l : Alike f g) where
   same-length w false e t = rw (← l .bit0 t, e)
 
   same-due : (x : Found) (r w : Bool) → reading f ≡ r → writing f ≡ w → lookup (indexOf f) (subOf f) ≡ x → dueOf d o f x ≡ dueOf d o g x
-  same-due (At k) true true p q s = true-false (sym q ∙ is-read f p .1)
+  same-due (At u) true true p q s = true-false (sym q ∙ is-read f p .1)
   same-due NoIndex r w p q s = rw (← same-aborting, ← same-reading, ← same-writing)
   same-due NoSubIndex r w p q s = rw (← same-aborting, ← same-reading, ← same-writing)
-  same-due (At k) true false p q s = rw (← same-aborting, ← same-reading, ← same-writing, p, q)
-  same-due (At k) false true p q s =
+  same-due (At u) true false p q s = rw (← same-aborting, ← same-reading, ← same-writing, p, q)
+  same-due (At u) false true p q s =
       let t = eqb-true (top f) 1 (both (eqb (top f) 1) (eqb (byte f 0 / 2 % 2) 1) q .0) in
-      let e = entry f k s in
+      let e = entry f u s in
       rw (← same-aborting, ← same-reading, ← same-writing, p, q)
-      (rw (same-cut f g k (e .0 .0) (l .contents t k e), ← same-length (rowAt k .2) _ refl t))
-  same-due (At k) false false p q s = rw (← same-aborting, ← same-reading, ← same-writing, p, q)
+      (rw (same-cut f g u (e .0 .0) (l .contents t u e), ← same-length (width u) _ refl t))
+  same-due (At u) false false p q s = rw (← same-aborting, ← same-reading, ← same-writing, p, q)
 
 module _ (d : Device) (o : Bool) (f : List ℕ) where
   abbrev asked : Found
@@ -230,7 +232,7 @@ module _ (d : Device) (o : Bool) (f : List ℕ) where
   repeated e = replied-by d o f (due d o f) (first d o f) (replied d o f ∙ rw (ne-eqb _ _ e))
 
   answers : (w n : ℕ) → due d o f ≡ value w n → Answers w (getD (served d o f .bytes) 0 0)
-  answers w n e = let t = rw e at (told d o f) in rw (e, t .its-width) (each-width Answers-by one two four name (t .place) (t .stands))
+  answers w n e = let t = rw e at (told d o f) in rw (e, t .its-width) (each-width Answers-by one two four name (t .its-row) (t .listed))
 
   unused : ValidDevice d → (w n : ℕ) → due d o f ≡ value w n → w ≤ 4
       → drop 1 (served d o f .bytes) ≡ byte f 1 ∷ byte f 2 ∷ byte f 3 ∷ lowFirst w n ++ replicate (4 - w) 0
@@ -238,16 +240,16 @@ module _ (d : Device) (o : Bool) (f : List ℕ) where
       let t = rw e at (told d o f) in
       rw e (ap (λ (l : List ℕ). byte f 1 ∷ byte f 2 ∷ byte f 3 ∷ l) (unused-by d o f asked w n t h short))
 
-  values : (p n : ℕ) → reading f ≡ true → asked ≡ At p → shownAt d o p ≡ Number n → due d o f ≡ value (rowAt p .2) n
+  values : (r : Row) (n : ℕ) → reading f ≡ true → asked ≡ At r → shown d o r ≡ Number n → due d o f ≡ value (width r) n
   unfolding due
-  values p n e q s = rw (q, is-read f e .0, is-read f e .1, e, s)
+  values r n e q s = rw (q, is-read f e .0, is-read f e .1, e, s)
 
-  confirms : (p : ℕ) → writing f ≡ true → asked ≡ At p → lengthOf f (rowAt p .2) ≡ rowAt p .2
-      → Takes d p (cutTo (rowAt p .2) (dataOf f)) → due d o f ≡ confirmation (key (rowAt p)) (cutTo (rowAt p .2) (dataOf f))
+  confirms : (r : Row) → writing f ≡ true → asked ≡ At r → lengthOf f (width r) ≡ width r
+      → Takes d r (cutTo (width r) (dataOf f)) → due d o f ≡ confirmation (key r) (cutTo (width r) (dataOf f))
   unfolding due
-  confirms p e q l t =
-      let free = accepted d (rowAt p) (cutTo (rowAt p .2) (dataOf f)) (t .unaborted) in
-      rw (q, is-write f e .0, is-write f e .1, e, free .0, free .1, t .writable, l, le-ltb (rowAt p .2) (rowAt p .2) (omega arith))
+  confirms r e q l t =
+      let free = accepted d r (cutTo (width r) (dataOf f)) (t .unaborted) in
+      rw (q, is-write f e .0, is-write f e .1, e, free .0, free .1, t .writable, l, le-ltb (width r) (width r) (omega arith))
 
   reserved : (g : List ℕ) → Alike f g → due d o f ≡ due d o g
   unfolding due

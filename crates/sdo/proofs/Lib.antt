@@ -1,4 +1,4 @@
-pub mod Place
+pub mod Asked
 pub mod Width
 pub mod Taken
 pub mod Due

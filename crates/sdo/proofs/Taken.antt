@@ -18,7 +18,7 @@ use Rattle.sdo.specs.AbortCodes.{requestCode}
 use Rattle.sdo.specs.Request.{accessTop, reading, writing, saidLength, takenApart}
 use Rattle.sdo.specs.Exactly.{Reads, Writes, firstData}
 use Rattle.sdo.specs.Taken.{asks, Taken}
-use Rattle.sdo.proofs.Place.{index-is}
+use Rattle.sdo.proofs.Asked.{index-is}
 
 abbrev topOf : Request → ℕ
 topOf (Asked a) = accessTop (a .access)

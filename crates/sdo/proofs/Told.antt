@@ -6,31 +6,31 @@ use mathlib.Core.Path.{_≡_, refl, _∙_}
 use mathlib.Core.Bool.{Bool, true, false, not, _&&_, cond}
 use mathlib.Core.List.{List}
 use lib.Dec.{ltb, lit<}
-use lib.ListN.{length}
 use borrow.Author.Tests.{ltb-false, not-false}
 use Rattle.cases.proofs.Cases.{by}
 use Rattle.entries.specs.declared.Device.{Device}
 use Rattle.entries.specs.declared.table.Row.{Row}
 use Rattle.entries.specs.declared.table.Found.the-variants.{At}
-use Rattle.entries.specs.Table.{table, rowAt, width, isRw, accepted, key, lookup}
+use Rattle.entries.specs.Table.{key, width, isRw, accepted, lookup}
+use Rattle.entries.specs.Laws.{Listed}
 use Rattle.dictionary.specs.declared.read.Shown.{Shown}
 use Rattle.dictionary.specs.declared.read.Shown.the-variants.{Blank, Number}
-use Rattle.dictionary.specs.Reads.{shownAt}
+use Rattle.dictionary.specs.Reads.{shown}
 use Rattle.dictionary.specs.Accepted.{acceptsIn, isSignature, barred, abortCode}
 use Rattle.sdo.specs.Request.{indexOf, subOf, dataOf, writing}
 use Rattle.sdo.specs.Service.{Due, value, abort, isBlank, numberIn, lengthOf, cutTo, due}
 use Rattle.sdo.specs.Exactly.{EntryStands, ReadsFrom, WritesTo}
 use Rattle.sdo.specs.Laws.{Told}
-use Rattle.sdo.proofs.Place.{finds, found}
+use Rattle.sdo.proofs.Asked.{finds, found}
 use Rattle.sdo.proofs.Width.{each-width}
 use Rattle.sdo.proofs.Ways.{writeDue, each-way}
 
 -- neither longer nor shorter
 pub same : (m n : ℕ) → ltb n m ≡ false → ltb m n ≡ false → m ≡ n
-same m n a b = let p = ltb-false n m a in let q = ltb-false m n b in omega arith
+same m n a b = let x = ltb-false n m a in let y = ltb-false m n b in omega arith
 
 -- the bytes that are cut off fit the type
-cut-fits : (v p : ℕ) → p < length table → cutTo (rowAt p .2) v < 256 ^ (rowAt p .2)
+cut-fits : (v : ℕ) (r : Row) → Listed r → cutTo (width r) v < 256 ^ width r
 cut-fits v =
     each-width (λ w. cutTo w v < 256 ^ w)
     (mod-lt v (omega arith))
@@ -46,28 +46,27 @@ module _ (d : Device) (o : Bool) (f : List ℕ) where
   abbrev Tells : Due → Type 0
   Tells = Told d o f (lookup (indexOf f) (subOf f))
 
-  at : (p : ℕ) → EntryStands f p → lookup (indexOf f) (subOf f) ≡ At p
-  at p h = found f ∙ finds f .at p .1 h
+  at : (r : Row) → EntryStands f r → lookup (indexOf f) (subOf f) ≡ At r
+  at r h = found f ∙ finds f .at r .1 h
 
-  read : (p : ℕ) → ReadsFrom f p → (s : Shown) → shownAt d o p ≡ s
-      → Tells (cond (isBlank s) (abort 0x08000024) (value (width (rowAt p)) (numberIn s)))
-  read p h Blank e = tt
-  read p h (Number n) e =
+  read : (r : Row) → ReadsFrom f r → (s : Shown) → shown d o r ≡ s
+      → Tells (cond (isBlank s) (abort 0x08000024) (value (width r) (numberIn s)))
+  read r h Blank e = tt
+  read r h (Number n) e =
       record {
         asks = rw (h .0);
-        place = p;
-        stands = h .1 .0 .0;
-        found = at p (h .1);
+        its-row = r;
+        listed = h .1 .0 .0;
+        found = at r (h .1);
         its-width = refl;
-        shown = e;
+        shows = e;
       }
 
-  asks : (p : ℕ) → WritesTo f p → writing f ≡ true
-  asks p h = rw (h .0 .0, h .0 .1)
+  asks : (r : Row) → WritesTo f r → writing f ≡ true
+  asks r h = rw (h .0 .0, h .0 .1)
 
-  write : (p : ℕ) → WritesTo f p → Tells (writeDue d o f (rowAt p) (cutTo (width (rowAt p)) (dataOf f)))
-  write p h =
-      let r = rowAt p in
+  write : (r : Row) → WritesTo f r → Tells (writeDue d o f r (cutTo (width r) (dataOf f)))
+  write r h =
       let v = cutTo (width r) (dataOf f) in
       by Tells (not (isRw r)) (λ _. tt) (λ rw.
       by Tells (ltb (width r) (lengthOf f (width r))) (λ _. tt) (λ long.
@@ -76,19 +75,19 @@ module _ (d : Device) (o : Bool) (f : List ℕ) where
       by Tells (not (acceptsIn d r v)) (λ _. tt) (λ accepted.
       by Tells (barred d (key r) v) (λ _. tt) (λ free.
       record {
-        asks = asks p h;
-        place = p;
-        found = at p (h .1);
+        asks = asks r h;
+        its-row = r;
+        found = at r (h .1);
         key = refl;
         its-length = same (lengthOf f (width r)) (width r) long short;
         its-value = refl;
         takes = record {
-          stands = h .1 .0 .0;
+          listed = h .1 .0 .0;
           writable = not-false (isRw r) rw;
-          long = cut-fits (dataOf f) p (h .1 .0 .0);
+          long = cut-fits (dataOf f) r (h .1 .0 .0);
           unaborted = unaborted d r v (not-false (acceptsIn d r v) accepted) free;
         };
       }))))))
 
   pub told : Tells (due d o f)
-  told = each-way d o f Tells (λ _. tt) (λ _. tt) (λ _. tt) (λ _. tt) (λ p h. read p h (shownAt d o p) refl) write
+  told = each-way d o f Tells (λ _. tt) (λ _. tt) (λ _. tt) (λ _. tt) (λ r h. read r h (shown d o r) refl) write

@@ -12,12 +12,14 @@ use Rattle.names.specs.declared.Transfer.{Transfer}
 use Rattle.names.specs.Transfer.{noTransfer, starting, lowByte}
 use Rattle.names.proofs.Laws.{laws as nameLaws}
 use Rattle.entries.specs.declared.Device.{Device}
+use Rattle.entries.specs.declared.table.Row.{Row}
 use Rattle.entries.specs.declared.table.Found.the-variants.{At, NoSubIndex}
 use Rattle.entries.specs.Identity.{nameOf}
-use Rattle.entries.specs.Table.{entries, table, rowAt, width, isRw, lookup}
+use Rattle.entries.specs.Table.{table, width, isRw, lookup}
 use Rattle.entries.specs.Laws.{Stands}
+use Rattle.entries.proofs.Laws.{laws as entries-laws}
 use Rattle.dictionary.specs.declared.read.Shown.the-variants.{Number}
-use Rattle.dictionary.specs.Reads.{shownAt}
+use Rattle.dictionary.specs.Reads.{shown}
 use Rattle.dictionary.specs.Valid.{ValidDevice}
 use Rattle.sdo.specs.Request.{byte, indexOf, subOf, aborting}
 use Rattle.sdo.specs.Reply.{replies, carriedOut}
@@ -26,7 +28,7 @@ use Rattle.sdo.specs.Upload.{uploadBytes, uploadLeaves, inTransfer, dueI
 use Rattle.sdo.specs.Exactly.{Reads, Writes, ClientAborts, EntryStands}
 use Rattle.sdo.specs.Laws.{Told}
 use Rattle.sdo.specs.UploadLaws.{AsksName, AsksSegment, Runs, servedIn, UploadLaws}
-use Rattle.sdo.proofs.Place.{index-is}
+use Rattle.sdo.proofs.Asked.{index-is}
 use Rattle.sdo.proofs.Ways.{client as client-due, unknown, reads, writes}
 use Rattle.sdo.proofs.Laws.{First, first, laws}
 
@@ -42,77 +44,94 @@ positive : (n : ℕ) → (n ≡ 0 → ⊥) → 1 ≤ n
 positive zero h = absurd (h refl)
 positive (suc n) h = omega arith
 
--- the entry of name k: its place, its row, what it reads, and the transfer that its read starts
+-- the entry of name k: its row, what it reads, and the transfer that its read starts
 record Named (d : Device) (o : Bool) (k : ℕ) : Type 0 where
-  pub stands : Stands (7 + k) (0x1007 + k) 0
-  pub its-width : width (rowAt (7 + k)) ≡ 32
-  pub its-access : isRw (rowAt (7 + k)) ≡ false
-  pub shown : shownAt d o (7 + k) ≡ Number (nameOf (d .identity) k .length)
+  pub its-row : Row
+  pub stands : Stands its-row (0x1007 + k) 0
+  pub its-width : width its-row ≡ 32
+  pub its-access : isRw its-row ≡ false
+  pub shows : shown d o its-row ≡ Number (nameOf (d .identity) k .length)
   pub started : starting (0x1007 + k) ≡ record { name = k; segments = 0 }
   pub low : lowByte k ≡ 0x07 + k
 
+-- by what is found for it
+named : (d : Device) (o : Bool) (k : ℕ) (r : Row) → lookup (0x1007 + k) 0 ≡ At r → width r ≡ 32 → isRw r ≡ false
+    → shown d o r ≡ Number (nameOf (d .identity) k .length) → starting (0x1007 + k) ≡ record { name = k; segments = 0 } → lowByte k ≡ 0x07 + k
+    → Named d o k
+named d o k r e w a s t l =
+    record {
+      its-row = r;
+      stands = entries-laws .finds (0x1007 + k) 0 .at r .0 e;
+      its-width = w;
+      its-access = a;
+      shows = s;
+      started = t;
+      low = l;
+    }
+
 names : (d : Device) (o : Bool) (k : ℕ) → 1 ≤ k → k ≤ 3 → Named d o k
-unfolding table entries shownAt
+unfolding table lookup shown
 names d o =
     each-of-three (Named d o)
-    (record { stands = ((omega arith, refl), refl); its-width = refl; its-access = refl; shown = refl; started = refl; low = refl })
-    (record { stands = ((omega arith, refl), refl); its-width = refl; its-access = refl; shown = refl; started = refl; low = refl })
-    (record { stands = ((omega arith, refl), refl); its-width = refl; its-access = refl; shown = refl; started = refl; low = refl })
+    (named d o 1 _ refl refl refl refl refl refl)
+    (named d o 2 _ refl refl refl refl refl refl)
+    (named d o 3 _ refl refl refl refl refl refl)
 
 -- an entry with a name's index has sub-index 0
-found-zero : (j p q : ℕ) (b : Bool) → eqb 0 j ≡ b → cond b (At q) NoSubIndex ≡ At p → j ≡ 0
-found-zero j p q true e h = sym (eqb-true 0 j e)
-found-zero j p q false e h = absurd (let z : _≡_ {A = ℕ} 0 1 = cc in omega arith)
+found-zero : (j : ℕ) (r q : Row) (b : Bool) → eqb 0 j ≡ b → cond b (At q) NoSubIndex ≡ At r → j ≡ 0
+found-zero j r q true e h = sym (eqb-true 0 j e)
+found-zero j r q false e h = absurd (let z : _≡_ {A = ℕ} 0 1 = cc in omega arith)
 
-sub-zero : (k : ℕ) → 1 ≤ k → k ≤ 3 → (j p : ℕ) → lookup (0x1007 + k) j ≡ At p → j ≡ 0
-unfolding table entries lookup
+sub-zero : (k : ℕ) → 1 ≤ k → k ≤ 3 → (j : ℕ) (r : Row) → lookup (0x1007 + k) j ≡ At r → j ≡ 0
+unfolding table lookup
 sub-zero =
-    each-of-three (λ k. (j p : ℕ) → lookup (0x1007 + k) j ≡ At p → j ≡ 0)
-    (λ j p. found-zero j p 8 _ refl) (λ j p. found-zero j p 9 _ refl) (λ j p. found-zero j p 10 _ refl)
+    each-of-three (λ k. (j : ℕ) (r : Row) → lookup (0x1007 + k) j ≡ At r → j ≡ 0)
+    (λ j r. found-zero j r _ _ refl) (λ j r. found-zero j r _ _ refl) (λ j r. found-zero j r _ _ refl)
 
 module _ (d : Device) (o : Bool) (f : List ℕ) where
-  -- a request for name k asks for the entry at place 7 + k
-  stands : (k : ℕ) → AsksName k f → EntryStands f (7 + k)
-  stands k a = rw (a .index, a .sub-index) (names d o k (a .least) (a .most) .stands)
+  -- a request for name k asks for its row
+  abbrev its : (k : ℕ) → AsksName k f → Named d o k
+  its k a = names d o k (a .least) (a .most)
+
+  stands : (k : ℕ) (a : AsksName k f) → EntryStands f (its k a .its-row)
+  stands k a = rw (a .index, a .sub-index) (its k a .stands)
 
   reads-name : (k : ℕ) → Reads f → AsksName k f → due d o f ≡ value 32 (nameOf (d .identity) k .length)
-  reads-name k h a =
-      let n = names d o k (a .least) (a .most) in
-      reads d o f (7 + k) (h, stands k a) ∙ rw (n .shown, n .its-width)
+  reads-name k h a = reads d o f (its k a .its-row) (h, stands k a) ∙ rw (its k a .shows, its k a .its-width)
 
   writes-name : (k : ℕ) → Writes f → AsksName k f → due d o f ≡ abort 0x06010002
-  writes-name k h a = writes d o f (7 + k) (h, stands k a) ∙ rw (names d o k (a .least) (a .most) .its-access)
+  writes-name k h a = writes d o f (its k a .its-row) (h, stands k a) ∙ rw (its k a .its-access)
 
   starts-name : (k : ℕ) → AsksName k f → starting (indexOf f) ≡ record { name = k; segments = 0 }
-  starts-name k a = ap starting (index-is f ∙ a .index) ∙ names d o k (a .least) (a .most) .started
+  starts-name k a = ap starting (index-is f ∙ a .index) ∙ its k a .started
 
   -- a segment request is no command of 01's list
   segment-unknown : AsksSegment f → due d o f ≡ abort 0x05040001
   segment-unknown s = unknown d o f (inl ((λ e. omega arith), (λ e. omega arith), (λ e. omega arith)))
 
   -- a request for an entry with a name's index asks for that name
-  asks-name : (k p : ℕ) → 1 ≤ k → k ≤ 3 → lookup (indexOf f) (subOf f) ≡ At p → indexOf f ≡ 0x1007 + k → AsksName k f
-  asks-name k p l m e i =
+  asks-name : (k : ℕ) (r : Row) → 1 ≤ k → k ≤ 3 → lookup (indexOf f) (subOf f) ≡ At r → indexOf f ≡ 0x1007 + k → AsksName k f
+  asks-name k r l m e i =
       record {
         least = l;
         most = m;
         index = sym (index-is f) ∙ i;
-        sub-index = sub-zero k l m (subOf f) p (rw i at e);
+        sub-index = sub-zero k l m (subOf f) r (rw i at e);
       }
 
   -- a read of an entry that is no name starts no transfer
-  starts-none : ((k : ℕ) → AsksName k f → ⊥) → (p : ℕ) → lookup (indexOf f) (subOf f) ≡ At p → starting (indexOf f) ≡ noTransfer
-  starts-none h p e =
+  starts-none : ((k : ℕ) → AsksName k f → ⊥) → (r : Row) → lookup (indexOf f) (subOf f) ≡ At r → starting (indexOf f) ≡ noTransfer
+  starts-none h r e =
       nameLaws .starts-none (indexOf f)
-      (λ i. h 1 (asks-name 1 p (omega arith) (omega arith) e i))
-      (λ i. h 2 (asks-name 2 p (omega arith) (omega arith) e i))
-      (λ i. h 3 (asks-name 3 p (omega arith) (omega arith) e i))
+      (λ i. h 1 (asks-name 1 r (omega arith) (omega arith) e i))
+      (λ i. h 2 (asks-name 2 r (omega arith) (omega arith) e i))
+      (λ i. h 3 (asks-name 3 r (omega arith) (omega arith) e i))
 
   -- of 01's list, only a read of a name starts a transfer
   ends-by : ((k : ℕ) → Reads f → AsksName k f → ⊥) → (x : Due) → Told d o f (lookup (indexOf f) (subOf f)) x → First d o f x
       → answer f x .transfer ≡ noTransfer
   ends-by h none t u = refl
-  ends-by h (value w n) t u = starts-none (λ k. h k (eqb-true _ _ (t .asks))) (t .place) (t .found)
+  ends-by h (value w n) t u = starts-none (λ k. h k (eqb-true _ _ (t .asks))) (t .its-row) (t .found)
   ends-by h (confirmation k v) t u = refl
   ends-by h (abort c) t u = refl
   ends-by h (upload b s) t u = absurd u

@@ -15,13 +15,13 @@ use Rattle.entries.specs.declared.Device.{Device}
 use Rattle.entries.specs.declared.table.Row.{Row}
 use Rattle.entries.specs.declared.table.Found.{Found}
 use Rattle.entries.specs.declared.table.Found.the-variants.{At, NoSubIndex, NoIndex}
-use Rattle.entries.specs.Table.{rowAt, width, isRw, accepted, key}
-use Rattle.dictionary.specs.Reads.{shownAt}
+use Rattle.entries.specs.Table.{key, width, isRw, accepted}
+use Rattle.dictionary.specs.Reads.{shown}
 use Rattle.dictionary.specs.Accepted.{acceptsIn, isSignature, barred}
 use Rattle.sdo.specs.Request.{dataOf}
 use Rattle.sdo.specs.Service.{Due, none, value, confirmation, abort, isBlank, numberIn, lengthOf, cutTo, due}
 use Rattle.sdo.specs.Exactly.{Reads, Writes, ClientAborts, UnknownCommand, NoSuchIndex, NoSuchSubIndex, ReadsFrom, WritesTo}
-use Rattle.sdo.proofs.Place.{asked, finds, found}
+use Rattle.sdo.proofs.Asked.{asked, finds, found}
 
 -- a bit that is not 1
 not-one : (n : ℕ) → (n ≡ 1 → ⊥) → n < 2 → n ≡ 0
@@ -30,9 +30,9 @@ not-one (suc zero) h l = absurd (h refl)
 not-one (suc (suc n)) h l = omega arith
 
 module _ (d : Device) (o : Bool) (f : List ℕ) where
-  -- what is due to a read, and to a write, of the entry at place p
-  abbrev pub readDue : ℕ → Due
-  readDue p = cond (isBlank (shownAt d o p)) (abort 0x08000024) (value (width (rowAt p)) (numberIn (shownAt d o p)))
+  -- what is due to a read, and to a write, of the entry of the row r
+  abbrev pub readDue : Row → Due
+  readDue r = cond (isBlank (shown d o r)) (abort 0x08000024) (value (width r) (numberIn (shown d o r)))
 
   abbrev pub writeDue : Row → ℕ → Due
   writeDue r v =
@@ -64,24 +64,24 @@ module _ (d : Device) (o : Bool) (f : List ℕ) where
   no-sub-index (inl r, h) = rw (r, found f ∙ finds f .no-sub-index .1 h)
   no-sub-index (inr w, h) = rw (w .0, w .1, found f ∙ finds f .no-sub-index .1 h)
 
-  pub reads : (p : ℕ) → ReadsFrom f p → due d o f ≡ readDue p
+  pub reads : (r : Row) → ReadsFrom f r → due d o f ≡ readDue r
   unfolding due
-  reads p h = rw (h .0, found f ∙ finds f .at p .1 (h .1))
+  reads r h = rw (h .0, found f ∙ finds f .at r .1 (h .1))
 
-  pub writes : (p : ℕ) → WritesTo f p → due d o f ≡ writeDue (rowAt p) (cutTo (width (rowAt p)) (dataOf f))
+  pub writes : (r : Row) → WritesTo f r → due d o f ≡ writeDue r (cutTo (width r) (dataOf f))
   unfolding due
-  writes p h = rw (h .0 .0, h .0 .1, found f ∙ finds f .at p .1 (h .1))
+  writes r h = rw (h .0 .0, h .0 .1, found f ∙ finds f .at r .1 (h .1))
 
   module _ (P : Due → Type 0) (aborts : ClientAborts f → P none) (unknowns : UnknownCommand f → P (abort 0x05040001))
       (no-indices : NoSuchIndex f → P (abort 0x06020000)) (no-sub-indices : NoSuchSubIndex f → P (abort 0x06090011))
-      (read : (p : ℕ) → ReadsFrom f p → P (readDue p))
-      (written : (p : ℕ) → WritesTo f p → P (writeDue (rowAt p) (cutTo (width (rowAt p)) (dataOf f)))) where
+      (read : (r : Row) → ReadsFrom f r → P (readDue r))
+      (written : (r : Row) → WritesTo f r → P (writeDue r (cutTo (width r) (dataOf f)))) where
     by-found : Reads f ⊎ Writes f → (x : Found) → asked f ≡ x → P (due d o f)
     by-found k NoIndex e = let h : NoSuchIndex f = (k, finds f .no-index .0 e) in subst P (sym (no-index h)) (no-indices h)
     by-found k NoSubIndex e =
         let h : NoSuchSubIndex f = (k, finds f .no-sub-index .0 e) in subst P (sym (no-sub-index h)) (no-sub-indices h)
-    by-found (inl r) (At p) e = let h : ReadsFrom f p = (r, finds f .at p .0 e) in subst P (sym (reads p h)) (read p h)
-    by-found (inr w) (At p) e = let h : WritesTo f p = (w, finds f .at p .0 e) in subst P (sym (writes p h)) (written p h)
+    by-found (inl a) (At r) e = let h : ReadsFrom f r = (a, finds f .at r .0 e) in subst P (sym (reads r h)) (read r h)
+    by-found (inr a) (At r) e = let h : WritesTo f r = (a, finds f .at r .0 e) in subst P (sym (writes r h)) (written r h)
 
     -- a property of the end of each way is a property of what is due
     pub each-way : P (due d o f)

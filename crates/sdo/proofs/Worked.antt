@@ -1,15 +1,15 @@
 -- Proves 01's worked numbers from the definitions, by computation.
 use mathlib.Core.Path.{refl}
 use Rattle.names.specs.Segment.{segmentOf}
-use Rattle.entries.specs.Table.{entries, table, lookup}
-use Rattle.dictionary.specs.Reads.{shownAt}
+use Rattle.entries.specs.Table.{table, lookup}
+use Rattle.dictionary.specs.Reads.{shown}
 use Rattle.dictionary.specs.Writes.{written}
 use Rattle.sdo.specs.Service.{due}
 use Rattle.sdo.specs.Upload.{dueIn}
 use Rattle.sdo.specs.Worked.{Worked}
 
 pub worked : Worked
-unfolding entries table lookup segmentOf shownAt written due dueIn
+unfolding table lookup segmentOf shown written due dueIn
 worked =
     record {
       p1 = refl;

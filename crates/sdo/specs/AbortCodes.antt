@@ -21,7 +21,7 @@ wrongToggle = 0x05030000
 abbrev pub foundCode : Found → ℕ
 foundCode NoIndex = 0x06020000
 foundCode NoSubIndex = 0x06090011
-foundCode (At p) = 0
+foundCode (At r) = 0
 
 -- 3. 0601 0002h: write to ro
 abbrev pub readOnly : ℕ

@@ -8,10 +8,11 @@ use mathlib.Core.Bool.{Bool, true, false}
 use mathlib.Core.List.{List, [], _∷_}
 use Rattle.can.specs.Number.{number}
 use Rattle.entries.specs.declared.Device.{Device}
-use Rattle.entries.specs.Table.{rowAt, width, isRw, key}
+use Rattle.entries.specs.declared.table.Row.{Row}
+use Rattle.entries.specs.Table.{key, width, isRw}
 use Rattle.entries.specs.Laws.{HasIndex, Stands}
 use Rattle.dictionary.specs.declared.read.Shown.the-variants.{Blank, Number}
-use Rattle.dictionary.specs.Reads.{shownAt}
+use Rattle.dictionary.specs.Reads.{shown}
 use Rattle.dictionary.specs.Accepted.{acceptsIn, barred}
 use Rattle.sdo.specs.Service.{Due, none, value, confirmation, abort}
 
@@ -28,23 +29,23 @@ abbrev pub ClientAborts : List ℕ → Type 0
 ClientAborts f = getD f 0 0 / 32 ≡ 4
 
 -- The index is in bytes 1 and 2, low byte first, the sub-index in byte 3.
-abbrev pub IndexStands : List ℕ → ℕ → Type 0
-IndexStands f p = HasIndex p (getD f 1 0 + 256 * getD f 2 0)
+abbrev pub IndexStands : List ℕ → Row → Type 0
+IndexStands f r = HasIndex r (getD f 1 0 + 256 * getD f 2 0)
 
-abbrev pub EntryStands : List ℕ → ℕ → Type 0
-EntryStands f p = Stands p (getD f 1 0 + 256 * getD f 2 0) (getD f 3 0)
+abbrev pub EntryStands : List ℕ → Row → Type 0
+EntryStands f r = Stands r (getD f 1 0 + 256 * getD f 2 0) (getD f 3 0)
 
--- A read of the entry at place p,
-abbrev pub ReadsFrom : List ℕ → ℕ → Type 0
-ReadsFrom f p = Reads f × EntryStands f p
+-- A read of the entry of the row r,
+abbrev pub ReadsFrom : List ℕ → Row → Type 0
+ReadsFrom f r = Reads f × EntryStands f r
 
 -- a write to it,
-abbrev pub WritesTo : List ℕ → ℕ → Type 0
-WritesTo f p = Writes f × EntryStands f p
+abbrev pub WritesTo : List ℕ → Row → Type 0
+WritesTo f r = Writes f × EntryStands f r
 
 -- which is rw,
-abbrev pub WritesRw : List ℕ → ℕ → Type 0
-WritesRw f p = WritesTo f p × (isRw (rowAt p) ≡ true)
+abbrev pub WritesRw : List ℕ → Row → Type 0
+WritesRw f r = WritesTo f r × (isRw r ≡ true)
 
 -- With bit 0 set the length is 4 less bits 3..2, with bit 0 clear it is the entry's.
 abbrev pub Longer : List ℕ → ℕ → Type 0
@@ -57,20 +58,20 @@ abbrev pub AsLong : List ℕ → ℕ → Type 0
 AsLong f w = getD f 0 0 % 2 ≡ 1 → 4 - getD f 0 0 / 4 % 4 ≡ w
 
 -- has that length,
-abbrev pub WritesLength : List ℕ → ℕ → Type 0
-WritesLength f p = WritesRw f p × AsLong f (width (rowAt p))
+abbrev pub WritesLength : List ℕ → Row → Type 0
+WritesLength f r = WritesRw f r × AsLong f (width r)
 
 -- The data are bytes 4..7; the first w of them,
 abbrev pub firstData : ℕ → List ℕ → List ℕ
 firstData w f = take w (getD f 4 0 ∷ getD f 5 0 ∷ getD f 6 0 ∷ getD f 7 0 ∷ [])
 
--- and the value that a write gives to the entry at place p: as many data bytes as the entry has, low byte first. Others are ignored.
-abbrev pub content : List ℕ → ℕ → ℕ
-content f p = number (firstData (width (rowAt p)) f)
+-- and the value that a write gives to the entry of the row r: as many data bytes as the entry has, low byte first. Others are ignored.
+abbrev pub content : List ℕ → Row → ℕ
+content f r = number (firstData (width r) f)
 
 -- and accepts the value.
-abbrev pub WritesValue : Device → List ℕ → ℕ → Type 0
-WritesValue d f p = WritesLength f p × (acceptsIn d (rowAt p) (content f p) ≡ true)
+abbrev pub WritesValue : Device → List ℕ → Row → Type 0
+WritesValue d f r = WritesLength f r × (acceptsIn d r (content f r) ≡ true)
 
 -- 1. other top bits, or a write with bit 1 clear
 abbrev pub UnknownCommand : List ℕ → Type 0
@@ -80,52 +81,52 @@ UnknownCommand f =
 
 -- 2. no such index: no entry has it; no such sub-index: some entry has the index, and none has both
 abbrev pub NoSuchIndex : List ℕ → Type 0
-NoSuchIndex f = (Reads f ⊎ Writes f) × ((p : ℕ) → IndexStands f p → ⊥)
+NoSuchIndex f = (Reads f ⊎ Writes f) × ((r : Row) → IndexStands f r → ⊥)
 
 abbrev pub NoSuchSubIndex : List ℕ → Type 0
-NoSuchSubIndex f = (Reads f ⊎ Writes f) × (((p : ℕ) × IndexStands f p) × ((p : ℕ) → EntryStands f p → ⊥))
+NoSuchSubIndex f = (Reads f ⊎ Writes f) × (((r : Row) × IndexStands f r) × ((r : Row) → EntryStands f r → ⊥))
 
 -- 3. write to ro
 abbrev pub WriteToRo : List ℕ → Type 0
-WriteToRo f = (p : ℕ) × (WritesTo f p × (isRw (rowAt p) ≡ false))
+WriteToRo f = (r : Row) × (WritesTo f r × (isRw r ≡ false))
 
 -- 4. length: longer, shorter
 abbrev pub TooLong : List ℕ → Type 0
-TooLong f = (p : ℕ) × (WritesRw f p × Longer f (width (rowAt p)))
+TooLong f = (r : Row) × (WritesRw f r × Longer f (width r))
 
 abbrev pub TooShort : List ℕ → Type 0
-TooShort f = (p : ℕ) × (WritesRw f p × Shorter f (width (rowAt p)))
+TooShort f = (r : Row) × (WritesRw f r × Shorter f (width r))
 
 -- 5. value; for 1010-1, 1011-1 a wrong signature
-abbrev pub Unaccepted : Device → List ℕ → ℕ → Type 0
-Unaccepted d f p = WritesLength f p × (acceptsIn d (rowAt p) (content f p) ≡ false)
+abbrev pub Unaccepted : Device → List ℕ → Row → Type 0
+Unaccepted d f r = WritesLength f r × (acceptsIn d r (content f r) ≡ false)
 
 abbrev pub Signs : List ℕ → Type 0
 Signs f = let i = getD f 1 0 + 256 * getD f 2 0 in ((i ≡ 0x1010) ⊎ (i ≡ 0x1011)) × (getD f 3 0 ≡ 1)
 
 abbrev pub WrongValue : Device → List ℕ → Type 0
-WrongValue d f = (p : ℕ) × (Unaccepted d f p × (Signs f → ⊥))
+WrongValue d f = (r : Row) × (Unaccepted d f r × (Signs f → ⊥))
 
 abbrev pub WrongSignature : Device → List ℕ → Type 0
-WrongSignature d f = (p : ℕ) × (Unaccepted d f p × Signs f)
+WrongSignature d f = (r : Row) × (Unaccepted d f r × Signs f)
 
 -- 6. writes only: the state
 abbrev pub Barred : Device → List ℕ → Type 0
-Barred d f = (p : ℕ) × (WritesValue d f p × (barred d (key (rowAt p)) (content f p) ≡ true))
+Barred d f = (r : Row) × (WritesValue d f r × (barred d (key r) (content f r) ≡ true))
 
 -- 7. read of a blank
 abbrev pub BlankRead : Device → Bool → List ℕ → Type 0
-BlankRead d o f = (p : ℕ) × (ReadsFrom f p × (shownAt d o p ≡ Blank))
+BlankRead d o f = (r : Row) × (ReadsFrom f r × (shown d o r ≡ Blank))
 
 -- A request that no step stops: a value has the entry's length,
 abbrev pub ValueRead : Device → Bool → List ℕ → ℕ → ℕ → Type 0
-ValueRead d o f w n = (p : ℕ) × (ReadsFrom f p × ((width (rowAt p) ≡ w) × (shownAt d o p ≡ Number n)))
+ValueRead d o f w n = (r : Row) × (ReadsFrom f r × ((width r ≡ w) × (shown d o r ≡ Number n)))
 
 -- and a confirmation says that the entry got the value.
 abbrev pub ValueWritten : Device → List ℕ → ℕ → ℕ → Type 0
 ValueWritten d f k v =
-    (p : ℕ)
-    × (WritesValue d f p × ((barred d (key (rowAt p)) (content f p) ≡ false) × ((key (rowAt p) ≡ k) × (content f p ≡ v))))
+    (r : Row)
+    × (WritesValue d f r × ((barred d (key r) (content f r) ≡ false) × ((key r ≡ k) × (content f r ≡ v))))
 
 -- First that applies: x is the code of a step exactly when that step applies and none before it does.
 pub record Exactly (d : Device) (o : Bool) (f : List ℕ) (x : Due) : Type 0 where

@@ -1,18 +1,20 @@
 -- Laws for every request to every device: when each reply is due, what a value and a confirmation tell, the bytes of the
 -- reply, and what a request leaves unchanged. Bytes are given by place and number, as in 01, chapter "Service requests".
 use Prim.Native.Nat.{ℕ, _-_, _/_, _%_, _<_, _≤_}
-use lib.ListN.{length, getD, drop, replicate}
+use lib.ListN.{getD, drop, replicate}
 use mathlib.Core.Path.{_≡_}
 use mathlib.Core.Logic.{_↔_, _⊎_}
 use mathlib.Core.Bool.{Bool, true, false, not}
 use mathlib.Core.List.{List, _∷_, _++_}
 use Rattle.can.specs.Number.{lowFirst, AreBytes}
 use Rattle.entries.specs.declared.Device.{Device}
+use Rattle.entries.specs.declared.table.Row.{Row}
 use Rattle.entries.specs.declared.table.Found.{Found}
 use Rattle.entries.specs.declared.table.Found.the-variants.{At}
-use Rattle.entries.specs.Table.{table, rowAt, width, key, lookup}
+use Rattle.entries.specs.Table.{key, width, lookup}
+use Rattle.entries.specs.Laws.{Listed}
 use Rattle.dictionary.specs.declared.read.Shown.the-variants.{Number}
-use Rattle.dictionary.specs.Reads.{shownAt}
+use Rattle.dictionary.specs.Reads.{shown}
 use Rattle.dictionary.specs.Writes.{written}
 use Rattle.dictionary.specs.Valid.{ValidDevice}
 use Rattle.dictionary.specs.Laws.{Takes}
@@ -27,21 +29,21 @@ use Rattle.sdo.specs.Taken.{Taken}
 -- A value is due to a read: it is that of the entry asked for, which is not blank.
 pub record Valued (d : Device) (o : Bool) (f : List ℕ) (x : Found) (w n : ℕ) : Type 0 where
   pub asks : reading f ≡ true
-  pub place : ℕ
-  pub stands : place < length table
-  pub found : x ≡ At place
-  pub its-width : w ≡ width (rowAt place)
-  pub shown : shownAt d o place ≡ Number n
+  pub its-row : Row
+  pub listed : Listed its-row
+  pub found : x ≡ At its-row
+  pub its-width : w ≡ width its-row
+  pub shows : shown d o its-row ≡ Number n
 
 -- A confirmation is due to a write: the entry asked for takes the value, which has its length.
 pub record Confirmed (d : Device) (f : List ℕ) (x : Found) (k v : ℕ) : Type 0 where
   pub asks : writing f ≡ true
-  pub place : ℕ
-  pub found : x ≡ At place
-  pub key : k ≡ key (rowAt place)
-  pub its-length : lengthOf f (width (rowAt place)) ≡ width (rowAt place)
-  pub its-value : v ≡ cutTo (width (rowAt place)) (dataOf f)
-  pub takes : Takes d place v
+  pub its-row : Row
+  pub found : x ≡ At its-row
+  pub key : k ≡ key its-row
+  pub its-length : lengthOf f (width its-row) ≡ width its-row
+  pub its-value : v ≡ cutTo (width its-row) (dataOf f)
+  pub takes : Takes d its-row v
 
 abbrev pub Told : Device → Bool → List ℕ → Found → Due → Type 0
 Told d o f x none = Unit {0}
@@ -60,7 +62,7 @@ pub record Alike (f g : List ℕ) : Type 0 where
   pub bit1 : getD f 0 0 / 32 ≡ 1 → getD f 0 0 / 2 % 2 ≡ getD g 0 0 / 2 % 2
   pub bit0 : getD f 0 0 / 32 ≡ 1 → getD f 0 0 % 2 ≡ getD g 0 0 % 2
   pub lengths : getD f 0 0 / 32 ≡ 1 → getD f 0 0 % 2 ≡ 1 → getD f 0 0 / 4 % 4 ≡ getD g 0 0 / 4 % 4
-  pub contents : getD f 0 0 / 32 ≡ 1 → (p : ℕ) → EntryStands f p → firstData (width (rowAt p)) f ≡ firstData (width (rowAt p)) g
+  pub contents : getD f 0 0 / 32 ≡ 1 → (r : Row) → EntryStands f r → firstData (width r) f ≡ firstData (width r) g
 
 -- Read answers 4Fh, 4Bh, 43h for 1, 2, 4 bytes: the top three bits 2, bit 4 clear, 4 less the length in bits 3..2, bits 1 and 0 set.
 -- A name, of up to 32 bytes, is answered 41h: bit 1 is clear, so that segments follow, and bit 0 says that the size is announced.
@@ -86,11 +88,11 @@ pub record Laws (d : Device) (o : Bool) (f : List ℕ) : Type 0 where
   pub only : AreBytes f → (x : Due) → Exactly d o f x → x ≡ due d o f
   pub told : Told d o f (lookup (indexOf f) (subOf f)) (due d o f)
   -- a read of an entry that is not blank gets its value,
-  pub values : (p n : ℕ) → reading f ≡ true → lookup (indexOf f) (subOf f) ≡ At p → shownAt d o p ≡ Number n
-      → due d o f ≡ value (width (rowAt p)) n
+  pub values : (r : Row) (n : ℕ) → reading f ≡ true → lookup (indexOf f) (subOf f) ≡ At r → shown d o r ≡ Number n
+      → due d o f ≡ value (width r) n
   -- a write that the entry takes is confirmed
-  pub confirms : (p : ℕ) → writing f ≡ true → lookup (indexOf f) (subOf f) ≡ At p → lengthOf f (width (rowAt p)) ≡ width (rowAt p)
-      → let v = cutTo (width (rowAt p)) (dataOf f) in Takes d p v → due d o f ≡ confirmation (key (rowAt p)) v
+  pub confirms : (r : Row) → writing f ≡ true → lookup (indexOf f) (subOf f) ≡ At r → lengthOf f (width r) ≡ width r
+      → let v = cutTo (width r) (dataOf f) in Takes d r v → due d o f ≡ confirmation (key r) v
   -- 4 abort (no effect, no reply): every other request gets a reply
   pub no-reply : (replies (served d o f .effect) ≡ false) ↔ ClientAborts f
   pub no-effect : ClientAborts f → carriedOut d (served d o f .effect) ≡ d

@@ -9,10 +9,10 @@ use Rattle.entries.specs.declared.Device.{Device}
 use Rattle.entries.specs.declared.table.Row.{Row}
 use Rattle.entries.specs.declared.table.Found.{Found}
 use Rattle.entries.specs.declared.table.Found.the-variants.{At, NoSubIndex, NoIndex}
-use Rattle.entries.specs.Table.{noRow, rowAt, width, isRw, accepted, key, lookup}
+use Rattle.entries.specs.Table.{noRow, key, width, isRw, accepted, lookup}
 use Rattle.dictionary.specs.declared.read.Shown.{Shown}
 use Rattle.dictionary.specs.declared.read.Shown.the-variants.{Blank, Number}
-use Rattle.dictionary.specs.Reads.{shownAt}
+use Rattle.dictionary.specs.Reads.{shown}
 use Rattle.dictionary.specs.Accepted.{acceptsIn, isSignature, barred}
 use Rattle.dictionary.specs.AbortCodes.{invalidValue, wrongSignature, deviceState}
 use Rattle.sdo.specs.AbortCodes.{requestCode, foundCode, readOnly, tooLong, tooShort, shownCode}
@@ -44,12 +44,12 @@ isAbsent x = not (eqb (foundCode x) 0)
 abbrev pub rowOf : Found → Row
 rowOf NoIndex = noRow
 rowOf NoSubIndex = noRow
-rowOf (At p) = rowAt p
+rowOf (At r) = r
 
 abbrev pub shownOf : Device → Bool → Found → Shown
 shownOf d o NoIndex = Blank
 shownOf d o NoSubIndex = Blank
-shownOf d o (At p) = shownAt d o p
+shownOf d o (At r) = shown d o r
 
 abbrev pub isBlank : Shown → Bool
 isBlank s = not (eqb (shownCode s) 0)

@@ -8,8 +8,8 @@ use Rattle.entries.specs.declared.Device.{Device}
 use Rattle.entries.specs.declared.table.Row.{Row}
 use Rattle.entries.specs.declared.table.Found.{Found}
 use Rattle.entries.specs.declared.table.Found.the-variants.{At, NoSubIndex, NoIndex}
-use Rattle.entries.specs.Table.{rowAt, width, isRw, key, lookup}
-use Rattle.dictionary.specs.Reads.{shownAt}
+use Rattle.entries.specs.Table.{key, width, isRw, lookup}
+use Rattle.dictionary.specs.Reads.{shown}
 use Rattle.dictionary.specs.Accepted.{abortCode}
 use Rattle.sdo.specs.AbortCodes.{requestCode, foundCode, readOnly, tooLong, tooShort}
 use Rattle.sdo.specs.declared.request.Access.{Access}
@@ -33,14 +33,14 @@ rowReply d f n content r =
     let v = cutTo (width r) content in
     cond (eqb (writeCode d n v r) 0) (confirmed f (key r) v) (aborted f (writeCode d n v r))
 
-abbrev pub entryReply : Device → Bool → List ℕ → ℕ → Access → Served
-entryReply d o f p Read = shownReply f (width (rowAt p)) (shownAt d o p)
-entryReply d o f p (Write n content) = rowReply d f n content (rowAt p)
+abbrev pub entryReply : Device → Bool → List ℕ → Row → Access → Served
+entryReply d o f r Read = shownReply f (width r) (shown d o r)
+entryReply d o f r (Write n content) = rowReply d f n content r
 
 abbrev pub foundReply : Device → Bool → List ℕ → Access → Found → Served
 foundReply d o f a NoIndex = aborted f (foundCode NoIndex)
 foundReply d o f a NoSubIndex = aborted f (foundCode NoSubIndex)
-foundReply d o f a (At p) = entryReply d o f p a
+foundReply d o f a (At r) = entryReply d o f r a
 
 abbrev pub replyTo : Device → Bool → List ℕ → Request → Served
 replyTo d o f (Asked ask) = foundReply d o f (ask .access) (lookup (ask .index) (ask .sub))

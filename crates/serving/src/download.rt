@@ -16,13 +16,13 @@ const TOO_SHORT: u32 = 0x0607_0013;
 pub fn to_row(device: Device, bytes: Bytes, length: u8, content: u32, row: Row) -> Served
     ensures { λ r. ⌜ r ≡ rowReply device bytes length content row ⌝ }
 {
-    let width = row.2;
+    let width = row.1;
     let value = cut(content, width);
     let code = code(device, length, value, row);
     if code != 0 {
         return replies::abort(bytes, code);
     }
-    replies::confirm(bytes, entries::table::key(row), value)
+    replies::confirm(bytes, row.0, value)
 }
 
 // Bytes past the entry's length are ignored.
@@ -42,11 +42,11 @@ fn cut(content: u32, width: u8) -> u32
 fn code(device: Device, length: u8, value: u32, row: Row) -> u32
     ensures { λ r. ⌜ r ≡ writeCode device length value row ⌝ }
 {
-    let rw = row.3;
+    let rw = row.2;
     if !rw {
         return READ_ONLY;
     }
-    let width = row.2;
+    let width = row.1;
     let code = length_code(length, width);
     if code != 0 {
         return code;

@@ -1,8 +1,5 @@
 //! The SDO server: from a request's eight bytes to the reply's, to what the write does, and to the transfer of a name. 01, "Service requests".
 ghost use mathlib.Core.Path.{_≡_};
-ghost use Prim.Native.Nat.{_<_};
-ghost use lib.ListN.{length};
-ghost use Rattle.entries.specs.Table.{table};
 ghost use Rattle.position.specs.Profile.{ValidProfile};
 ghost use Rattle.sdo.specs.Steps.{entryReply, replyTo};
 ghost use Rattle.sdo.specs.Service.{answer, due};
@@ -10,6 +7,7 @@ ghost use Rattle.sdo.specs.Upload.{dueIn};
 use can::Bytes;
 use entries::Device;
 use entries::table::Found;
+use entries::table::Row;
 use names::Transfer;
 use sdo::reply::Served;
 use sdo::request::Access;
@@ -59,25 +57,18 @@ fn reply_to(device: Device, operational: bool, bytes: Bytes, request: Request) -
     match found {
         Found::NoIndex => replies::abort(bytes, NO_SUCH_INDEX),
         Found::NoSubIndex => replies::abort(bytes, NO_SUCH_SUB_INDEX),
-        Found::At(place) => entry_reply(device, operational, bytes, place, access),
+        Found::At(row) => entry_reply(device, operational, bytes, row, access),
     }
 }
 
-fn entry_reply(
-    device: Device,
-    operational: bool,
-    bytes: Bytes,
-    place: usize,
-    access: Access,
-) -> Served
-    requires { ⌜ (place < length table) × (ValidProfile (device .settings .profile)) ⌝ }
-    ensures { λ r. ⌜ r ≡ entryReply device operational bytes place access ⌝ }
+fn entry_reply(device: Device, operational: bool, bytes: Bytes, row: Row, access: Access) -> Served
+    requires { ⌜ ValidProfile (device .settings .profile) ⌝ }
+    ensures { λ r. ⌜ r ≡ entryReply device operational bytes row access ⌝ }
 {
-    let row = entries::table::row_at(place);
     match access {
         Access::Read => {
-            let width = row.2;
-            replies::shown(bytes, width, values::read(device, operational, place))
+            let width = row.1;
+            replies::shown(bytes, width, values::read(device, operational, row))
         }
         Access::Write { length, content } => {
             download::to_row(device, bytes, length, content, row)

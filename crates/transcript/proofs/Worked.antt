@@ -1,8 +1,8 @@
 -- Proves the sessions of specs/Worked.antt from the definitions, by computation.
 use mathlib.Core.Path.{refl}
 use Rattle.names.specs.Segment.{segmentOf}
-use Rattle.entries.specs.Table.{entries, table, lookup}
-use Rattle.dictionary.specs.Reads.{shownAt}
+use Rattle.entries.specs.Table.{table, lookup}
+use Rattle.dictionary.specs.Reads.{shown}
 use Rattle.dictionary.specs.Writes.{written}
 use Rattle.sdo.specs.Service.{due}
 use Rattle.sdo.specs.Upload.{dueIn}
@@ -13,6 +13,6 @@ use Rattle.transcript.specs.Commands.{told}
 use Rattle.transcript.specs.Worked.{Worked}
 
 pub worked : Worked
-unfolding entries table lookup shownAt written due dueIn segmentOf act settledTo parsed frameText refusalText told
+unfolding table lookup shown written due dueIn segmentOf act settledTo parsed frameText refusalText told
 worked =
     record { printed = refl; time = refl; positions = refl; identity = refl; names = refl; refusals = refl; malformed = refl }

@@ -1,130 +1,96 @@
 //! What each entry reads: 01, "Entries".
 ghost use mathlib.Core.Path.{_≡_};
 ghost use mathlib.Core.Bool.{not, cond};
-ghost use Prim.Native.Nat.{_+_, _<_, _≤_};
-ghost use lib.Dec.{ltb};
-ghost use lib.ListN.{length};
-ghost use Rattle.position.specs.Position.{position};
+ghost use Prim.Native.Nat.{_+_, _<_};
 ghost use Rattle.position.specs.Profile.{ValidProfile};
-ghost use Rattle.entries.specs.Table.{table};
-ghost use Rattle.dictionary.specs.declared.read.Shown.the-variants.{Blank, Number};
-ghost use Rattle.dictionary.specs.Reads.{shownAt};
+ghost use Rattle.entries.specs.Table.{isBlank, settingsOf, beside, numberOf};
+ghost use Rattle.dictionary.specs.Reads.{shown};
 use dictionary::read::Shown;
 use entries::Device;
-use entries::Reading;
-use position::Profile;
-
-const PROFILE_406_ABSOLUTE_LINEAR: u32 = 0x0008_0196;
-
-const SYNC_IDENTIFIER: u32 = 0x80;
-
-const ENCODER_ERROR: u32 = 0x5000;
-
-const MAPPED_POSITION: u32 = 0x6004_0020;
+use entries::Settings;
+use entries::table::Row;
+use entries::table::Source;
+use entries::table::WhenBlank;
+use names::Name;
 
 const OPERATIONAL: u32 = 0x8000;
 
-const MEASURING_STEP_NANOMETRES: u32 = 5_000;
-
-// What the entry at a place of the table reads; here 1000h to 1018h.
-pub fn read(device: Device, operational: bool, place: usize) -> Shown
-    requires { ⌜ (place < length table) × (ValidProfile (device .settings .profile)) ⌝ }
-    ensures { λ r. ⌜ r ≡ shownAt device operational place ⌝ }
+// What the entry of a row reads.
+pub fn read(device: Device, operational: bool, row: Row) -> Shown
+    requires { ⌜ ValidProfile (device .settings .profile) ⌝ }
+    ensures { λ r. ⌜ r ≡ shown device operational row ⌝ }
 {
-    let communication = device.settings.communication;
-    let identity = device.identity;
-    match place {
-        0 => Shown::Number(PROFILE_406_ABSOLUTE_LINEAR),
-        1 => Shown::Number(register(device.reading.good)),
-        2 => Shown::Number(device.errors),
-        3 => error_shown(1, device.errors),
-        4 => error_shown(2, device.errors),
-        5 => error_shown(3, device.errors),
-        6 => error_shown(4, device.errors),
-        7 => Shown::Number(SYNC_IDENTIFIER),
-        8 => Shown::Number(identity.name.length as u32),
-        9 => Shown::Number(identity.hardware.length as u32),
-        10 => Shown::Number(identity.software.length as u32),
-        11 => Shown::Number(1),
-        12 => Shown::Number(1),
-        13 => Shown::Number(1),
-        14 => Shown::Number(1),
-        15 => Shown::Number(communication.emergency),
-        16 => Shown::Number(communication.inhibit),
-        17 => Shown::Number(communication.heartbeat),
-        18 => Shown::Number(4),
-        19 => Shown::Number(identity.vendor),
-        20 => Shown::Number(identity.product),
-        21 => Shown::Number(identity.revision),
-        22 => Shown::Number(identity.serial),
-        _ => read_pdo(device, operational, place),
-    }
-}
-
-// The entries 1800h to 1A01h.
-fn read_pdo(device: Device, operational: bool, place: usize) -> Shown
-    requires { ⌜ (23 ≤ place) × (place < length table) × (ValidProfile (device .settings .profile)) ⌝ }
-    ensures { λ r. ⌜ r ≡ shownAt device operational place ⌝ }
-{
-    let communication = device.settings.communication;
-    match place {
-        23 => Shown::Number(5),
-        24 => Shown::Number(communication.pdo1.identifier),
-        25 => Shown::Number(communication.pdo1.transmission),
-        26 => Shown::Number(communication.pdo1.event),
-        27 => Shown::Number(5),
-        28 => Shown::Number(communication.pdo2.identifier),
-        29 => Shown::Number(communication.pdo2.transmission),
-        30 => Shown::Number(communication.pdo2.event),
-        31 => Shown::Number(1),
-        32 => Shown::Number(MAPPED_POSITION),
-        33 => Shown::Number(1),
-        34 => Shown::Number(MAPPED_POSITION),
-        _ => read_profile(device, operational, place),
-    }
-}
-
-// The entries 6000h to 6509h.
-fn read_profile(device: Device, operational: bool, place: usize) -> Shown
-    requires { ⌜ (35 ≤ place) × (place < length table) × (ValidProfile (device .settings .profile)) ⌝ }
-    ensures { λ r. ⌜ r ≡ shownAt device operational place ⌝ }
-{
-    let profile = device.settings.profile;
-    let reading = device.reading;
-    match place {
-        35 => Shown::Number(profile.operating),
-        36 => Shown::Number(profile.range),
-        37 => Shown::Number(profile.preset),
-        38 => position_shown(profile, reading),
-        39 => Shown::Number(1),
-        40 => Shown::Number(profile.step),
-        41 => Shown::Number(device.settings.communication.pdo1.event),
-        42 => Shown::Number(status(profile.operating, operational)),
-        43 => Shown::Number(MEASURING_STEP_NANOMETRES),
-        44 => Shown::Number(register(reading.good)),
-        45 => Shown::Number(1),
-        _ => Shown::Number(can::bits(profile.offset)),
-    }
-}
-
-// 1003-1..4.
-fn error_shown(number: u32, errors: u32) -> Shown
-    ensures { λ r. ⌜ r ≡ cond (ltb errors number) Blank (Number 0x5000) ⌝ }
-{
-    if errors < number {
+    let when = row.4;
+    let source = row.5;
+    if is_blank(when, device) {
         return Shown::Blank;
     }
-    Shown::Number(ENCODER_ERROR)
+    Shown::Number(number(source, device, operational))
 }
 
-fn position_shown(profile: Profile, reading: Reading) -> Shown
-    requires { ⌜ ValidProfile profile ⌝ }
-    ensures { λ r. ⌜ r ≡ cond (not (reading .good)) Blank (Number (position profile (reading .raw))) ⌝ }
+fn is_blank(when: WhenBlank, device: Device) -> bool
+    ensures { λ r. ⌜ r ≡ isBlank when device ⌝ }
 {
-    if reading.good {
-        return Shown::Number(position::position_of(profile, reading.raw));
+    match when {
+        WhenBlank::Never => false,
+        WhenBlank::Missing => !device.reading.good,
+        WhenBlank::Beyond(count) => device.errors < count,
     }
-    Shown::Blank
+}
+
+fn number(source: Source, device: Device, operational: bool) -> u32
+    requires { ⌜ ValidProfile (device .settings .profile) ⌝ }
+    ensures { λ r. ⌜ r ≡ numberOf source device operational ⌝ }
+{
+    let identity = device.identity;
+    let settings = device.settings;
+    let profile = settings.profile;
+    match source {
+        Source::Fixed(number) => number,
+        Source::Setting(key) => setting(settings, key),
+        Source::Register => register(device.reading.good),
+        Source::ErrorCount => device.errors,
+        Source::Save => 1,
+        Source::Load => 1,
+        Source::Name(number) => size(entries::name_of(identity, number)),
+        Source::Vendor => identity.vendor,
+        Source::Product => identity.product,
+        Source::Revision => identity.revision,
+        Source::Serial => identity.serial,
+        Source::Position => position::position_of(profile, device.reading.raw),
+        Source::Status => status(profile.operating, operational),
+        Source::Offset => can::bits(profile.offset),
+    }
+}
+
+// The setting of this name, which is the key of its entry.
+fn setting(settings: Settings, key: u32) -> u32
+    ensures { λ r. ⌜ r ≡ beside (settingsOf settings) key ⌝ }
+{
+    let communication = settings.communication;
+    let profile = settings.profile;
+    match key {
+        0x1014_00 => communication.emergency,
+        0x1015_00 => communication.inhibit,
+        0x1017_00 => communication.heartbeat,
+        0x1800_01 => communication.pdo1.identifier,
+        0x1800_02 => communication.pdo1.transmission,
+        0x1800_05 => communication.pdo1.event,
+        0x1801_01 => communication.pdo2.identifier,
+        0x1801_02 => communication.pdo2.transmission,
+        0x1801_05 => communication.pdo2.event,
+        0x6000_00 => profile.operating,
+        0x6002_00 => profile.range,
+        0x6003_00 => profile.preset,
+        0x6005_01 => profile.step,
+        _ => 0,
+    }
+}
+
+fn size(name: Name) -> u32
+    ensures { λ r. ⌜ r ≡ name .length ⌝ }
+{
+    name.length as u32
 }
 
 fn register(good: bool) -> u32

@@ -13,25 +13,20 @@ returns : tie.Need-returns
 returns c =
     value-first (c .before .before .args .device) (c .before .before .args .row) _ _ (c .before .value-abort-code .ensures) (c .if1 .taken)
 
-key-requires : tie.Need-key-requires
-key-requires c κs = search needs
-
 barred-requires : tie.Need-barred-requires
 barred-requires c κs = search needs
 
 returns-2 : tie.Need-returns-2
-returns-2 c = let b = c .before .before .before .before in
-    let stops = rw (c .before .before .key .ensures) at (c .before .barred .ensures) in
+returns-2 c = let b = c .before .before .before in
     state-next (b .before .args .device) (b .before .args .row) _ _ (b .value-abort-code .ensures) true
-    (sym (c .if2 .taken) ∙ stops) (c .before .before .before .if1 .left)
+    (sym (c .if2 .taken) ∙ c .before .barred .ensures) (c .before .before .if1 .left)
 
 returns-3 : tie.Need-returns-3
-returns-3 c = let b = c .before .before .before .before in
-    let stops = rw (c .before .before .key .ensures) at (c .before .barred .ensures) in
+returns-3 c = let b = c .before .before .before in
     state-next (b .before .args .device) (b .before .args .row) _ _ (b .value-abort-code .ensures) false
-    (sym (c .if2 .left) ∙ stops) (c .before .before .before .if1 .left)
+    (sym (c .if2 .left) ∙ c .before .barred .ensures) (c .before .before .if1 .left)
 
 pub abort-code-spec : {M : Type 1} → statement M
 abort-code-spec =
     tie.close
-    (tie.spec value-abort-code-requires returns key-requires barred-requires returns-2 returns-3)
+    (tie.spec value-abort-code-requires returns barred-requires returns-2 returns-3)

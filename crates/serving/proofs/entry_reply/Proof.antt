@@ -3,9 +3,6 @@ use borrow.Author.Needs.{needs}
 use Rattle.serving.proofs.entry_reply.Statement.{statement}
 use Rattle.serving.proofs.entry_reply.Tie as tie
 
-row-at-requires : tie.Need-row-at-requires
-row-at-requires c κs = search needs
-
 enum-told : tie.Need-enum-told
 enum-told c = search needs
 
@@ -27,17 +24,15 @@ returns c =
       c .before .before .enum-told .given .1,
       c .shown .ensures,
       c .before .read .ensures,
-      c .before .before .before .before .row-at .ensures,
     )
 
 returns-2 : tie.Need-returns-2
-returns-2 c = rw (c .before .before .access .given .1, c .to-row .ensures, c .before .before .before .before .row-at .ensures)
+returns-2 c = rw (c .before .before .access .given .1, c .to-row .ensures)
 
 pub entry-reply-spec : {M : Type 1} → statement M
 entry-reply-spec =
     tie.close
     (tie.spec
-    row-at-requires
     enum-told
     read-requires
     shown-requires

@@ -1,6 +1,4 @@
 -- `reply_to` meets its contract: a reason to abort, or what was found.
-use Rattle.sdo.proofs.Place.{stands}
-use mathlib.Core.Path.{sym, _∙_}
 use borrow.Author.Needs.{needs}
 use Rattle.serving.proofs.reply_to.Statement.{statement}
 use Rattle.serving.proofs.reply_to.Tie as tie
@@ -36,10 +34,7 @@ enum-known-found : tie.Need-enum-known-found
 enum-known-found c = search needs
 
 entry-reply-requires : tie.Need-entry-reply-requires
-entry-reply-requires c κs = (
-  stands _ _ _ (sym (c .before .before .before .find .ensures) ∙ c .before .found .given .1),
-  c .before .before .before .before .before .before .before .pre,
-)
+entry-reply-requires c κs = search needs
 
 returns-2 : tie.Need-returns-2
 returns-2 c =

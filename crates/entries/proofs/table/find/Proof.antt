@@ -1,84 +1,101 @@
--- `table::find` meets its contract: by the index, and then by its sub-indices.
-use mathlib.Core.Path.{refl, _∙_}
-use mathlib.Core.List.{List, [], _∷_}
-use Prim.Native.Nat.{ℕ}
+-- `table::find` meets its contract: the row is there, or the row of sub-index 0 tells whether the index is.
+use Prim.Native.Nat.{ℕ, _<_}
+use mathlib.Core.Path.{_≡_, refl, sym, ap, _∙_}
+use mathlib.Core.Logic.{_⊎_, inl, inr}
+use native.Mathlib.Omega.{arith}
 use borrow.Author.Needs.{needs}
-use Rattle.entries.specs.Table.{entries, table, lookup}
-use Rattle.entries.proofs.Lookup.{by-sub-index, pdo-by-sub-index, absent}
+use Rattle.entries.specs.declared.table.Row.{Row}
+use Rattle.entries.specs.declared.table.Found.the-variants.{At, NoSubIndex, NoIndex}
+use Rattle.entries.specs.Table.{keyOf, width, rowOfKey, lookup}
+use Rattle.entries.specs.Laws.{Stands}
+use Rattle.entries.proofs.Found.{finds}
+use Rattle.entries.proofs.Search.{there, not-there, no-first}
 use Rattle.entries.proofs.table.find.Statement.{statement}
 use Rattle.entries.proofs.table.find.Tie as tie
+use Rattle.entries.proofs.table.find.Reads as reads
+use Rattle.entries.proofs.table.find.Lts as lts
+use Rattle.entries.proofs.table.key_of.Reads as key-of-reads
+use Rattle.entries.proofs.table.row_of.Reads as row-of-reads
 
-abbrev indices : List ℕ
-indices =
-    0x6509 ∷ 0x6504 ∷ 0x6503 ∷ 0x6501 ∷ 0x6500 ∷ 0x6200 ∷ 0x6005 ∷ 0x6004 ∷ 0x6003 ∷
-    0x6002 ∷ 0x6000 ∷ 0x1A01 ∷ 0x1A00 ∷ 0x1801 ∷ 0x1800 ∷ 0x1018 ∷ 0x1017 ∷ 0x1015 ∷
-    0x1014 ∷ 0x1011 ∷ 0x1010 ∷ 0x100A ∷ 0x1009 ∷ 0x1008 ∷ 0x1005 ∷ 0x1003 ∷ 0x1001 ∷ 0x1000 ∷ []
+-- The sub-index asked for, or after it 0.
+abbrev Inv-loop : tie.InvT-loop
+Inv-loop index sub asked₀ asked = (asked ≡ sub) ⊎ ((asked ≡ 0) × ((r : Row) → Stands r index sub → ⊥))
 
-no-index : tie.Need-returns-29
-unfolding lookup table entries
-no-index c =
-    let asked = c .before .args in
-    absent 0 table indices (asked .index) (asked .sub) refl (c .match .rest)
+abbrev μ-loop : tie.MeasureT-loop
+μ-loop index sub asked₀ asked = asked
+
+-- the row r that was sought for the sub-index a
+module _ (i j a k : ℕ) (r : Row) (e : k ≡ keyOf i a) (f : r ≡ rowOfKey k) where
+  abbrev Asks : Type 0
+  Asks = (a ≡ j) ⊎ ((a ≡ 0) × ((q : Row) → Stands q i j → ⊥))
+
+  sought : width r ≡ width (rowOfKey (keyOf i a))
+  sought = ap width (f ∙ ap rowOfKey e)
+
+  stands : a < 256 → (width r ≡ 0 → ⊥) → Stands r i a
+  stands b n = rw (f, e) (there i a b (λ z. n (sought ∙ z)))
+
+  found : a ≡ j → a < 256 → (width r ≡ 0 → ⊥) → At r ≡ lookup i j
+  found x b n = sym (finds i j .at r .1 (rw (← x) (stands b n)))
+
+  no-sub : Asks → (a ≡ j → ⊥) → (width r ≡ 0 → ⊥) → NoSubIndex ≡ lookup i j
+  no-sub (inl x) m n = absurd (m x)
+  no-sub (inr (x, none)) m n = sym (finds i j .no-sub-index .1 ((r, stands (omega arith) n .0), none))
+
+  no-index : a ≡ 0 → width r ≡ 0 → NoIndex ≡ lookup i j
+  no-index x z = sym (finds i j .no-index .1 (no-first i (ap (λ b. width (rowOfKey (keyOf i b))) (sym x) ∙ sym sought ∙ z)))
+
+  next : Asks → (a ≡ 0 → ⊥) → width r ≡ 0 → (q : Row) → Stands q i j → ⊥
+  next (inl x) m z q s = not-there i j (ap (λ b. width (rowOfKey (keyOf i b))) (sym x) ∙ sym sought ∙ z) q s
+  next (inr (x, none)) m z q s = m x
+
+loop-holds : tie.Need-loop-holds Inv-loop μ-loop
+loop-holds c = inl refl
+
+key-of-requires : tie.Need-key-of-requires Inv-loop μ-loop
+key-of-requires c κs = search needs
+
+row-of-requires : tie.Need-row-of-requires Inv-loop μ-loop
+row-of-requires c κs = search needs
+
+returns : tie.Need-returns Inv-loop μ-loop
+returns c =
+    let b = c .before .before .before in
+    let a = b .before .before .loop .asked in
+    let x = c .if2 .taken in
+    found _ _ a _ _ (b .before .key-of .ensures) (b .row-of .ensures) x (omega arith) (c .before .if1 .taken)
+
+returns-2 : tie.Need-returns-2 Inv-loop μ-loop
+returns-2 c =
+    let b = c .before .before .before in
+    let l = b .before .before .loop in
+    no-sub _ _ (l .asked) _ _ (b .before .key-of .ensures) (b .row-of .ensures) (l .inv) (c .if2 .left) (c .before .if1 .taken)
+
+returns-3 : tie.Need-returns-3 Inv-loop μ-loop
+returns-3 c =
+    let b = c .before .before .before in
+    no-index _ _ (b .before .before .loop .asked) _ _ (b .before .key-of .ensures) (b .row-of .ensures) (c .if3 .taken) (c .before .if1 .left)
+
+loop-less : tie.Need-loop-less Inv-loop μ-loop
+loop-less c = omega (arith, c .if3 .left)
+
+loop-again : tie.Need-loop-again Inv-loop μ-loop
+loop-again c =
+    let b = c .before .before .before in
+    let l = b .before .before .loop in
+    inr (refl, next _ _ (l .asked) _ _ (b .before .key-of .ensures) (b .row-of .ensures) (l .inv) (c .if3 .left) (c .before .if1 .left))
 
 pub find-spec : {M : Type 1} → statement M
-unfolding lookup table entries
 find-spec =
     tie.close
     (tie.spec
-    (λ c κs. search needs)
-    (λ c κs. search needs)
-    (λ c κs. search needs)
-    (λ c κs. search needs)
-    (λ c κs. search needs)
-    (λ c κs. search needs)
-    (λ c κs. search needs)
-    (λ c κs. search needs)
-    (λ c κs. search needs)
-    (λ c κs. search needs)
-    (λ c κs. search needs)
-    (λ c κs. search needs)
-    (λ c κs. search needs)
-    (λ c κs. search needs)
-    (λ c κs. search needs)
-    (λ c κs. search needs)
-    (λ c κs. search needs)
-    (λ c κs. search needs)
-    (λ c κs. search needs)
-    (λ c κs. search needs)
-    (λ c κs. search needs)
-    (λ c κs. search needs)
-    (λ c κs. search needs)
-    (λ c κs. search needs)
-    (λ c κs. search needs)
-    (λ c κs. search needs)
-    (λ c κs. search needs)
-    (λ c κs. search needs)
-    (λ c. rw (c .before .match .keys1) (c .by-sub-index .ensures ∙ by-sub-index 0 1 (c .before .before .args .sub)))
-    (λ c. rw (c .before .match .keys2) (c .by-sub-index2 .ensures ∙ by-sub-index 1 1 (c .before .before .args .sub)))
-    (λ c. rw (c .before .match .keys3) (c .by-sub-index3 .ensures ∙ by-sub-index 2 5 (c .before .before .args .sub)))
-    (λ c. rw (c .before .match .keys4) (c .by-sub-index4 .ensures ∙ by-sub-index 7 1 (c .before .before .args .sub)))
-    (λ c. rw (c .before .match .keys5) (c .by-sub-index5 .ensures ∙ by-sub-index 8 1 (c .before .before .args .sub)))
-    (λ c. rw (c .before .match .keys6) (c .by-sub-index6 .ensures ∙ by-sub-index 9 1 (c .before .before .args .sub)))
-    (λ c. rw (c .before .match .keys7) (c .by-sub-index7 .ensures ∙ by-sub-index 10 1 (c .before .before .args .sub)))
-    (λ c. rw (c .before .match .keys8) (c .by-sub-index8 .ensures ∙ by-sub-index 11 2 (c .before .before .args .sub)))
-    (λ c. rw (c .before .match .keys9) (c .by-sub-index9 .ensures ∙ by-sub-index 13 2 (c .before .before .args .sub)))
-    (λ c. rw (c .before .match .keys10) (c .by-sub-index10 .ensures ∙ by-sub-index 15 1 (c .before .before .args .sub)))
-    (λ c. rw (c .before .match .keys11) (c .by-sub-index11 .ensures ∙ by-sub-index 16 1 (c .before .before .args .sub)))
-    (λ c. rw (c .before .match .keys12) (c .by-sub-index12 .ensures ∙ by-sub-index 17 1 (c .before .before .args .sub)))
-    (λ c. rw (c .before .match .keys13) (c .by-sub-index13 .ensures ∙ by-sub-index 18 5 (c .before .before .args .sub)))
-    (λ c. rw (c .before .match .keys14) (c .pdo-by-sub-index .ensures ∙ pdo-by-sub-index 23 (c .before .before .args .sub)))
-    (λ c. rw (c .before .match .keys15) (c .pdo-by-sub-index2 .ensures ∙ pdo-by-sub-index 27 (c .before .before .args .sub)))
-    (λ c. rw (c .before .match .keys16) (c .by-sub-index14 .ensures ∙ by-sub-index 31 2 (c .before .before .args .sub)))
-    (λ c. rw (c .before .match .keys17) (c .by-sub-index15 .ensures ∙ by-sub-index 33 2 (c .before .before .args .sub)))
-    (λ c. rw (c .before .match .keys18) (c .by-sub-index16 .ensures ∙ by-sub-index 35 1 (c .before .before .args .sub)))
-    (λ c. rw (c .before .match .keys19) (c .by-sub-index17 .ensures ∙ by-sub-index 36 1 (c .before .before .args .sub)))
-    (λ c. rw (c .before .match .keys20) (c .by-sub-index18 .ensures ∙ by-sub-index 37 1 (c .before .before .args .sub)))
-    (λ c. rw (c .before .match .keys21) (c .by-sub-index19 .ensures ∙ by-sub-index 38 1 (c .before .before .args .sub)))
-    (λ c. rw (c .before .match .keys22) (c .by-sub-index20 .ensures ∙ by-sub-index 39 2 (c .before .before .args .sub)))
-    (λ c. rw (c .before .match .keys23) (c .by-sub-index21 .ensures ∙ by-sub-index 41 1 (c .before .before .args .sub)))
-    (λ c. rw (c .before .match .keys24) (c .by-sub-index22 .ensures ∙ by-sub-index 42 1 (c .before .before .args .sub)))
-    (λ c. rw (c .before .match .keys25) (c .by-sub-index23 .ensures ∙ by-sub-index 43 1 (c .before .before .args .sub)))
-    (λ c. rw (c .before .match .keys26) (c .by-sub-index24 .ensures ∙ by-sub-index 44 1 (c .before .before .args .sub)))
-    (λ c. rw (c .before .match .keys27) (c .by-sub-index25 .ensures ∙ by-sub-index 45 1 (c .before .before .args .sub)))
-    (λ c. rw (c .before .match .keys28) (c .by-sub-index26 .ensures ∙ by-sub-index 46 1 (c .before .before .args .sub)))
-    no-index)
+    Inv-loop
+    μ-loop
+    loop-holds
+    key-of-requires
+    row-of-requires
+    returns
+    returns-2
+    returns-3
+    loop-less
+    loop-again)

@@ -7,7 +7,7 @@ use Rattle.serving.proofs.download.code.Tie as tie
 
 returns : tie.Need-returns
 unfolding writeCode
-returns c = rw (not-true (c .before .args .row .3) (c .if1 .taken))
+returns c = rw (not-true (c .before .args .row .2) (c .if1 .taken))
 
 length-code-requires : tie.Need-length-code-requires
 length-code-requires c κs = search needs
@@ -16,7 +16,7 @@ returns-2 : tie.Need-returns-2
 unfolding writeCode
 returns-2 c =
     rw (
-      not-false (c .before .before .before .args .row .3) (c .before .before .if1 .left),
+      not-false (c .before .before .before .args .row .2) (c .before .before .if1 .left),
       ← (c .before .length-code .ensures),
       ne-eqb _ _ (c .if2 .taken),
     )
@@ -31,7 +31,7 @@ returns-3 c =
       ← (c .abort-code .ensures),
       ← (c .before .before .length-code .ensures),
       c .before .if2 .left,
-      not-false (c .before .before .before .before .args .row .3) (c .before .before .before .if1 .left),
+      not-false (c .before .before .before .before .args .row .2) (c .before .before .before .if1 .left),
     )
 
 pub code-spec : {M : Type 1} → statement M

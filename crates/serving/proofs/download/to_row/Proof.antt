@@ -22,20 +22,16 @@ returns c =
       c .abort .ensures,
     )
 
-key-requires : tie.Need-key-requires
-key-requires c κs = search needs
-
 confirm-requires : tie.Need-confirm-requires
 confirm-requires c κs = search needs
 
 returns-2 : tie.Need-returns-2
 returns-2 c =
     rw (
-      ← (c .before .before .before .before .cut .ensures),
-      ← (c .before .before .before .code .ensures),
-      c .before .before .if1 .left,
+      ← (c .before .before .before .cut .ensures),
+      ← (c .before .before .code .ensures),
+      c .before .if1 .left,
       c .confirm .ensures,
-      c .before .key .ensures,
     )
 
 pub to-row-spec : {M : Type 1} → statement M
@@ -46,6 +42,5 @@ to-row-spec =
     code-requires
     abort-requires
     returns
-    key-requires
     confirm-requires
     returns-2)

@@ -1,19 +1,17 @@
--- What is found is the place in the table of the index in bytes 1 and 2 and the sub-index in byte 3.
-use Prim.Native.Nat.{ℕ, _+_, _*_, _<_}
+-- What is found is the row of the index in bytes 1 and 2 and the sub-index in byte 3.
+use Prim.Native.Nat.{ℕ, _+_, _*_}
 use native.Mathlib.Omega.{arith}
 use mathlib.Core.Path.{_≡_, sym, ap, _∙_}
 use mathlib.Core.List.{List}
-use lib.ListN.{length, getD}
+use lib.ListN.{getD}
+use Rattle.entries.specs.declared.table.Row.{Row}
 use Rattle.entries.specs.declared.table.Found.{Found}
 use Rattle.entries.specs.declared.table.Found.the-variants.{At}
-use Rattle.entries.specs.Table.{table, lookup}
+use Rattle.entries.specs.Table.{lookup}
 use Rattle.entries.specs.Laws.{Finds}
 use Rattle.entries.proofs.Laws.{laws}
 use Rattle.sdo.specs.Request.{indexOf, subOf}
 use Rattle.sdo.specs.Exactly.{EntryStands}
-
-pub stands : (i j p : ℕ) → lookup i j ≡ At p → p < length table
-stands i j p e = laws .finds i j .at p .0 e .0 .0
 
 module _ (f : List ℕ) where
   abbrev pub asked : Found
@@ -28,5 +26,5 @@ module _ (f : List ℕ) where
   pub found : lookup (indexOf f) (subOf f) ≡ asked
   found = ap (λ (n : ℕ). lookup n (getD f 3 0)) index-is
 
-  pub entry : (p : ℕ) → lookup (indexOf f) (subOf f) ≡ At p → EntryStands f p
-  entry p e = finds .at p .0 (sym found ∙ e)
+  pub entry : (r : Row) → lookup (indexOf f) (subOf f) ≡ At r → EntryStands f r
+  entry r e = finds .at r .0 (sym found ∙ e)

@@ -1,0 +1,49 @@
+-- `table::from_1000` meets its contract: a line of the list for each key, and no row for any other of its part.
+use Prim.Native.Nat.{ℕ, _<_}
+use native.Mathlib.Omega.{arith}
+use mathlib.Core.Path.{_≡_, refl}
+use mathlib.Core.Bool.{Bool, true, false}
+use mathlib.Core.List.{List, [], _∷_}
+use lib.Dec.{eqb, leb}
+use borrow.Author.Tests.{ne-eqb, leb-true}
+use Rattle.entries.specs.Table.{table, rowOfKey}
+use Rattle.entries.proofs.Search.{absent}
+use Rattle.entries.proofs.table.from_1000.Statement.{statement}
+use Rattle.entries.proofs.table.from_1000.Tie as tie
+use Rattle.entries.proofs.table.from_1000.Lts as lts
+
+abbrev keys : List ℕ
+keys =
+    0x1010_01 ∷ 0x1010_00 ∷ 0x100A_00 ∷ 0x1009_00 ∷ 0x1008_00 ∷ 0x1005_00 ∷ 0x1003_04 ∷ 0x1003_03 ∷ 0x1003_02 ∷
+    0x1003_01 ∷ 0x1003_00 ∷ 0x1001_00 ∷ 0x1000_00 ∷ []
+
+-- in another part
+abbrev elsewhere : ℕ → Bool
+elsewhere a = leb 0x1011_00 a
+
+apart : (k a : ℕ) → k < 0x1011_00 → elsewhere a ≡ true → eqb a k ≡ false
+apart k a b e = let h = leb-true 0x1011_00 a e in ne-eqb a k (λ f. omega arith)
+
+none : tie.Need-returns-14
+unfolding table
+none c = absent keys elsewhere _ (λ a e. apart _ a (c .before .pre) e) refl (c .match .rest)
+
+pub from-1000-spec : {M : Type 1} → statement M
+unfolding table rowOfKey
+from-1000-spec =
+    tie.close
+    (tie.spec
+    (λ c. rw (c .match .keys1))
+    (λ c. rw (c .match .keys2))
+    (λ c. rw (c .match .keys3))
+    (λ c. rw (c .match .keys4))
+    (λ c. rw (c .match .keys5))
+    (λ c. rw (c .match .keys6))
+    (λ c. rw (c .match .keys7))
+    (λ c. rw (c .match .keys8))
+    (λ c. rw (c .match .keys9))
+    (λ c. rw (c .match .keys10))
+    (λ c. rw (c .match .keys11))
+    (λ c. rw (c .match .keys12))
+    (λ c. rw (c .match .keys13))
+    none)

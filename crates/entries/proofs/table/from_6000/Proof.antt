@@ -1,0 +1,48 @@
+-- `table::from_6000` meets its contract: a line of the list for each key, and no row for any other of its part.
+use Prim.Native.Nat.{ℕ, _≤_}
+use native.Mathlib.Omega.{arith}
+use mathlib.Core.Path.{_≡_, refl}
+use mathlib.Core.Bool.{Bool, true, false}
+use mathlib.Core.List.{List, [], _∷_}
+use lib.Dec.{eqb, ltb}
+use borrow.Author.Tests.{ne-eqb, ltb-true}
+use Rattle.entries.specs.Table.{table, rowOfKey}
+use Rattle.entries.proofs.Search.{absent}
+use Rattle.entries.proofs.table.from_6000.Statement.{statement}
+use Rattle.entries.proofs.table.from_6000.Tie as tie
+use Rattle.entries.proofs.table.from_6000.Lts as lts
+
+abbrev keys : List ℕ
+keys =
+    0x6509_00 ∷ 0x6504_00 ∷ 0x6503_00 ∷ 0x6501_00 ∷ 0x6500_00 ∷ 0x6200_00 ∷ 0x6005_01 ∷ 0x6005_00 ∷ 0x6004_00 ∷
+    0x6003_00 ∷ 0x6002_00 ∷ 0x6000_00 ∷ []
+
+-- in another part
+abbrev elsewhere : ℕ → Bool
+elsewhere a = ltb a 0x6000_00
+
+apart : (k a : ℕ) → 0x6000_00 ≤ k → elsewhere a ≡ true → eqb a k ≡ false
+apart k a b e = let h = ltb-true a 0x6000_00 e in ne-eqb a k (λ f. omega arith)
+
+none : tie.Need-returns-13
+unfolding table
+none c = absent keys elsewhere _ (λ a e. apart _ a (c .before .pre) e) refl (c .match .rest)
+
+pub from-6000-spec : {M : Type 1} → statement M
+unfolding table rowOfKey
+from-6000-spec =
+    tie.close
+    (tie.spec
+    (λ c. rw (c .match .keys1))
+    (λ c. rw (c .match .keys2))
+    (λ c. rw (c .match .keys3))
+    (λ c. rw (c .match .keys4))
+    (λ c. rw (c .match .keys5))
+    (λ c. rw (c .match .keys6))
+    (λ c. rw (c .match .keys7))
+    (λ c. rw (c .match .keys8))
+    (λ c. rw (c .match .keys9))
+    (λ c. rw (c .match .keys10))
+    (λ c. rw (c .match .keys11))
+    (λ c. rw (c .match .keys12))
+    none)
