@@ -25,7 +25,7 @@ use Rattle.dictionary.specs.declared.read.Shown.{Shown}
 use Rattle.dictionary.specs.declared.read.Shown.the-variants.{Blank, Number}
 use Rattle.dictionary.specs.Accepted.{acceptsIn, isSignature, barred}
 use Rattle.dictionary.specs.Reads.{shown, readOf, reads}
-use Rattle.dictionary.specs.Writes.{written}
+use Rattle.dictionary.specs.Writes.{written, put}
 use Rattle.dictionary.specs.Valid.{ValidDevice}
 use Rattle.dictionary.specs.Laws.{Takes}
 use Rattle.dictionary.proofs.Accepted.{taken}
@@ -58,7 +58,7 @@ position-reads d v valid a b =
     rw here (ap Number (position-laws .presets p r v (valid .settings .profile) (ltb-true v (p .range) a) .reads))
 
 exact : Each Exact (those isRw table)
-unfolding Exact table shown written
+unfolding Exact table shown put
 exact =
     (λ d o v h a b. refl)
     ▸ (λ d o v h a b. refl)

@@ -3,18 +3,19 @@ use Prim.Native.Nat.{ℕ}
 use lib.ListN.{getD, List·getD-map}
 use mathlib.Core.Path.{_≡_, refl, sym, _∙_, ap}
 use mathlib.Core.Bool.{Bool, false}
-use mathlib.Core.List.{List}
+use mathlib.Core.List.{List, map}
 use mathlib.Core.Option.{some}
 use Rattle.entries.specs.declared.Device.{Device}
 use Rattle.entries.specs.declared.table.Found.the-variants.{At}
 use Rattle.entries.specs.declared.table.Row.{Row}
-use Rattle.entries.specs.Table.{table, noRow, rowAt, index, sub, width, isRw, lookup}
+use Rattle.entries.specs.Table.{table, noRow, rowAt, key, index, sub, width, isRw, target, lookup}
+use Rattle.entries.proofs.Listed.{agree}
 use Rattle.entries.specs.Laws.{columns}
 use Rattle.entries.proofs.Laws.{laws as entries-laws}
 use Rattle.dictionary.specs.declared.read.Shown.{Shown}
 use Rattle.dictionary.specs.declared.read.Shown.the-variants.{Number}
 use Rattle.dictionary.specs.Reads.{shown, readOf}
-use Rattle.dictionary.specs.Writes.{written}
+use Rattle.dictionary.specs.Writes.{ownKey, written, put}
 use Rattle.dictionary.specs.Laws.{Shows, Laws}
 use Rattle.dictionary.proofs.Factory.{factory-valid}
 use Rattle.dictionary.proofs.Valid.{written-fits, written-valid}
@@ -40,8 +41,12 @@ unfolding table lookup shown
 second-reads d o = (shows d o 0x1800 5 refl refl, shows d o 0x6200 0 refl refl)
 
 second-writes : (d : Device) (v : ℕ) → written d 0x6200_00 v ≡ written d 0x1800_05 v
-unfolding written
+unfolding put
 second-writes d v = refl
+
+own : map target table ≡ map (λ r. ownKey (key r)) table
+unfolding table
+own = refl
 
 pub laws : Laws
 laws =
@@ -52,6 +57,7 @@ laws =
       written-fits = written-fits;
       reads-back = reads-back;
       typed = typed;
+      targets = agree target (λ r. ownKey (key r)) own;
       second-reads = second-reads;
       second-writes = second-writes;
     }

@@ -3,6 +3,7 @@ pub mod Accepted
 pub mod Tested
 pub mod AcceptedLaws
 pub mod ValidLaws
+pub mod Own
 pub mod Columns
 pub mod Those
 pub mod WriteLaws

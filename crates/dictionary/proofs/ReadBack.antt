@@ -12,7 +12,7 @@ use Rattle.entries.specs.Table.{table, key, isRw, accepted, source, numberOf}
 use Rattle.entries.specs.Keys.{errorCountKey}
 use Rattle.entries.proofs.Listed.{agree}
 use Rattle.dictionary.specs.Accepted.{acceptsIn, isSignature}
-use Rattle.dictionary.specs.Writes.{written}
+use Rattle.dictionary.specs.Writes.{written, put}
 use Rattle.dictionary.specs.Laws.{Takes}
 use Rattle.dictionary.proofs.Accepted.{taken}
 
@@ -28,7 +28,7 @@ module _ (d : Device) (o : Bool) (r : Row) (v : ℕ) where
   expected q = cond (isRw q) (cond (isSignature (accepted q)) 1 (cond (isCount q) 0 v)) 0
 
   columns : map read table ≡ map expected table
-  unfolding table written
+  unfolding table put
   columns = refl
 
   -- whether 1003-0 accepts v

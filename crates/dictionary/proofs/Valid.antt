@@ -21,7 +21,7 @@ use Rattle.entries.specs.Table.{table, key, width, isRw, accepted}
 use Rattle.entries.specs.Keys.{errorCountKey, saveKey, loadKey, rangeKey, presetKey, stepKey}
 use Rattle.dictionary.specs.Accepted.{emergencyIdentifier, pdoIdentifier, transmissionType, operatingParameters, accepts}
 use Rattle.dictionary.specs.Accepted.{acceptsIn}
-use Rattle.dictionary.specs.Writes.{rangeFor, rescaledTo, written, Fits}
+use Rattle.dictionary.specs.Writes.{ownKey, rangeFor, rescaledTo, written, Fits, put}
 use Rattle.dictionary.specs.Valid.{ValidPdo, ValidCommunication, ValidSettings, ValidDevice}
 use Rattle.dictionary.specs.Laws.{Takes}
 use Rattle.dictionary.specs.AcceptedLaws.{those}
@@ -158,7 +158,7 @@ Keeps r =
     (d : Device) (v : ℕ) → Taken d r v → ValidSettings (d .node) (d .settings) → ValidSettings (d .node) (written d (key r) v .settings)
 
 keeps : Each Keeps (those isRw table)
-unfolding Keeps table written
+unfolding Keeps table put
 keeps =
     (λ d v t h. h)
     ▸ (λ d v t h. h)
@@ -202,9 +202,9 @@ module _ (d : Device) (r : Row) (v : ℕ) (t : Takes d r v) where
       (d .settings .profile .range) v (known .accepted)
 
   pub written-valid : ValidDevice d → ValidDevice (written d (key r) v)
-  unfolding Keeps written
+  unfolding Keeps put
   written-valid h =
-      let k = key r in
+      let k = ownKey (key r) in
       record {
         node-low = h .node-low;
         node-high = h .node-high;

@@ -13,7 +13,7 @@ use Rattle.entries.specs.Laws.{Listed}
 use Rattle.entries.proofs.Laws.{laws as entries-laws}
 use Rattle.dictionary.specs.Accepted.{abortCode}
 use Rattle.dictionary.specs.Reads.{shown}
-use Rattle.dictionary.specs.Writes.{written}
+use Rattle.dictionary.specs.Writes.{put}
 use Rattle.dictionary.specs.Valid.{ValidIdentity, ValidDevice}
 use Rattle.dictionary.specs.Worked.{identity1, at, ready, ends, endEach, Worked}
 use Rattle.dictionary.proofs.Laws.{laws}
@@ -57,7 +57,7 @@ listed : (i j : ℕ) (r : Row) → lookup i j ≡ At r → Listed r
 listed i j r e = entries-laws .finds i j .at r .0 e .0 .0
 
 ready-valid : ValidDevice ready
-unfolding table lookup abortCode written
+unfolding table lookup abortCode put
 ready-valid =
     let one = laws .written-valid (at 100) (rowIn (lookup 0x1800 1)) 0x80000181
     (record { listed = listed 0x1800 1 _ refl; writable = refl; long = omega arith; unaborted = refl }) at-valid in
@@ -67,11 +67,11 @@ ready-valid =
     (record { listed = listed 0x6000 0 _ refl; writable = refl; long = omega arith; unaborted = refl }) two
 
 ends-accepted : endEach ready ends ≡ true
-unfolding table lookup abortCode written
+unfolding table lookup abortCode put
 ends-accepted = refl
 
 pub worked : Worked
-unfolding table lookup abortCode shown written
+unfolding table lookup abortCode shown put
 worked =
     record {
       type = refl;

@@ -13,8 +13,9 @@ use Rattle.position.specs.declared.Profile.{Profile}
 use Rattle.position.specs.Position.{directed}
 use Rattle.entries.specs.declared.Communication.{Communication}
 use Rattle.entries.specs.Settings.{factory}
-use Rattle.dictionary.specs.Writes.{ownKey, rangeFor, communicationAfter, profileAfter, written}
+use Rattle.dictionary.specs.Writes.{ownKey, rangeFor, communicationAfter, profileAfter, put}
 use Rattle.dictionary.specs.Effects.{given}
+use Rattle.dictionary.proofs.Own.{own-other, own-profile}
 use Rattle.dictionary.specs.WriteLaws.{Becomes, CommunicationWritten, ProfileWritten, WriteLaws}
 
 becomes : {A : Type 0} (k : ℕ) (es : List (ℕ × A)) (old : A) → Becomes k es old (given es k old)
@@ -27,32 +28,29 @@ third true t u a b = refl
 third false true u a b = refl
 third false false u a b = refl
 
--- 6200h is written as 1800-5, and as no other sub-index of 1800h.
-module _ (k v old : ℕ) where
-  event-written : Becomes k ((0x1800_05, v) ∷ (0x6200_00, v) ∷ []) old (cond (eqb (ownKey k) 0x1800_05) v old)
-  event-written =
-      test (eqb k 0x6200_00)
-      (λ e. let f = eqb-true k 0x6200_00 e in rw e (λ _. refl, λ _. (λ _. refl, λ n. absurd (n f))))
-      (λ e. let x = becomes k ((0x1800_05, v) ∷ []) old in rw e (x .0, λ n. (λ f. absurd (eqb-false k 0x6200_00 e f), λ _. x .1 n)))
+-- 6200h is written as 1800-5,
+event-written : (k v old : ℕ) → Becomes k ((0x1800_05, v) ∷ (0x6200_00, v) ∷ []) old (cond (eqb (ownKey k) 0x1800_05) v old)
+event-written k v old =
+    test (eqb k 0x6200_00)
+    (λ e. let f = eqb-true k 0x6200_00 e in rw e (λ _. refl, λ _. (λ _. refl, λ n. absurd (n f))))
+    (λ e. let x = becomes k ((0x1800_05, v) ∷ []) old in rw e (x .0, λ n. (λ f. absurd (eqb-false k 0x6200_00 e f), λ _. x .1 n)))
 
-  other-written : (a : ℕ) → (a ≡ 0x6200_00 → ⊥) → (a ≡ 0x1800_05 → ⊥) → Becomes k ((a, v) ∷ []) old (cond (eqb (ownKey k) a) v old)
-  other-written a m n =
-      test (eqb k 0x6200_00)
-      (λ e. rw (e, ne-eqb 0x1800_05 a (λ f. n (sym f))) (λ f. absurd (m (sym f ∙ eqb-true k 0x6200_00 e)), λ _. refl))
-      (λ e. rw e (becomes k ((a, v) ∷ []) old))
+-- and alters nothing else.
+other-written : (k v old a : ℕ) → eqb 0x6200_00 a ≡ false → eqb 0x1800_05 a ≡ false → Becomes k ((a, v) ∷ []) old (cond (eqb (ownKey k) a) v old)
+other-written k v old a m n = rw (own-other k a m n) (becomes k ((a, v) ∷ []) old)
 
-communication-written : (k v : ℕ) (c : Communication) → CommunicationWritten k v c (communicationAfter c k v)
+communication-written : (k v : ℕ) (c : Communication) → CommunicationWritten k v c (communicationAfter c (ownKey k) v)
 communication-written k v c =
     record {
-      emergency = becomes k ((0x1014_00, v) ∷ []) (c .emergency);
-      inhibit = becomes k ((0x1015_00, v) ∷ []) (c .inhibit);
-      heartbeat = becomes k ((0x1017_00, v) ∷ []) (c .heartbeat);
-      identifier1 = other-written k v (c .pdo1 .identifier) 0x1800_01 (λ e. omega arith) (λ e. omega arith);
-      transmission1 = other-written k v (c .pdo1 .transmission) 0x1800_02 (λ e. omega arith) (λ e. omega arith);
+      emergency = other-written k v (c .emergency) 0x1014_00 refl refl;
+      inhibit = other-written k v (c .inhibit) 0x1015_00 refl refl;
+      heartbeat = other-written k v (c .heartbeat) 0x1017_00 refl refl;
+      identifier1 = other-written k v (c .pdo1 .identifier) 0x1800_01 refl refl;
+      transmission1 = other-written k v (c .pdo1 .transmission) 0x1800_02 refl refl;
       event1 = event-written k v (c .pdo1 .event);
-      identifier2 = becomes k ((0x1801_01, v) ∷ []) (c .pdo2 .identifier);
-      transmission2 = becomes k ((0x1801_02, v) ∷ []) (c .pdo2 .transmission);
-      event2 = becomes k ((0x1801_05, v) ∷ []) (c .pdo2 .event);
+      identifier2 = other-written k v (c .pdo2 .identifier) 0x1801_01 refl refl;
+      transmission2 = other-written k v (c .pdo2 .transmission) 0x1801_02 refl refl;
+      event2 = other-written k v (c .pdo2 .event) 0x1801_05 refl refl;
     }
 
 scaled-range : {v : ℕ} → (v ≡ 4) ⊎ (v ≡ 12) → rangeFor v ≡ 1000000
@@ -94,13 +92,15 @@ module _ (p : Profile) (r k v : ℕ) where
       }
 
 pub write-laws : WriteLaws
-unfolding written
+unfolding put
 write-laws d k v =
     record {
       communication = communication-written k v (d .settings .communication);
-      profile = profile-written (d .settings .profile) (d .reading .raw) k v;
-      errors = becomes k ((0x1003_00, 0) ∷ []) (d .errors);
-      saved = becomes k ((0x1010_01, d .settings) ∷ (0x1011_01, factory (d .node)) ∷ []) (d .saved);
+      profile = rw (own-profile (d .settings .profile) (d .reading .raw) k v) (profile-written (d .settings .profile) (d .reading .raw) k v);
+      errors = other-written k 0 (d .errors) 0x1003_00 refl refl;
+      saved =
+          rw (own-other k 0x1010_01 refl refl, own-other k 0x1011_01 refl refl)
+          (becomes k ((0x1010_01, d .settings) ∷ (0x1011_01, factory (d .node)) ∷ []) (d .saved));
       node = refl;
       identity = refl;
       reading = refl;

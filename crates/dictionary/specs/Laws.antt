@@ -8,13 +8,13 @@ use mathlib.Core.Option.{some}
 use Rattle.entries.specs.declared.Device.{Device}
 use Rattle.entries.specs.Settings.{factory}
 use Rattle.entries.specs.declared.table.Row.{Row}
-use Rattle.entries.specs.Table.{rowAt, key, index, sub, width, isRw, accepted, source, numberOf}
+use Rattle.entries.specs.Table.{rowAt, key, index, sub, width, isRw, accepted, source, numberOf, target}
 use Rattle.entries.specs.Laws.{Listed, columns}
 use Rattle.dictionary.specs.declared.read.Shown.{Shown}
 use Rattle.dictionary.specs.declared.read.Shown.the-variants.{Number}
 use Rattle.dictionary.specs.Accepted.{isSignature, abortCode}
 use Rattle.dictionary.specs.Reads.{reads}
-use Rattle.dictionary.specs.Writes.{written, Fits}
+use Rattle.dictionary.specs.Writes.{ownKey, written, Fits}
 use Rattle.dictionary.specs.Valid.{ValidSettings, ValidDevice}
 
 -- The entry of the row r takes a write of v: the list has r, it is rw, v has its length, and neither the value nor the state aborts it.
@@ -42,6 +42,8 @@ pub record Laws : Type 0 where
       → numberOf (source r) (written d (key r) v) o ≡ cond (isSignature (accepted r)) 1 v
   -- A number has no more bytes than its entry's type.
   pub typed : (d : Device) (o : Bool) (r : Row) → Listed r → ValidDevice d → numberOf (source r) d o < 256 ^ width r
+  -- What a row names is what a write to its entry alters.
+  pub targets : (r : Row) → Listed r → target r ≡ ownKey (key r)
   -- 6200-0: 1800-5 under a second index
   pub second-reads : (d : Device) (o : Bool)
       → let event = Number (d .settings .communication .pdo1 .event) in Shows d o 0x1800 5 event × Shows d o 0x6200 0 event

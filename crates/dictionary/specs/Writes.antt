@@ -23,17 +23,13 @@ pdoAfter index p k v =
       event = cond (eqb k (eventKeyOf index)) v (p .event);
     }
 
--- 6200-0: 1800-5 under a second index
-abbrev pub ownKey : ℕ → ℕ
-ownKey k = cond (eqb k cycleKey) (eventKeyOf tpdo1) k
-
 abbrev pub communicationAfter : Communication → ℕ → ℕ → Communication
 communicationAfter c k v =
     record {
       emergency = cond (eqb k emergencyKey) v (c .emergency);
       inhibit = cond (eqb k inhibitKey) v (c .inhibit);
       heartbeat = cond (eqb k heartbeatKey) v (c .heartbeat);
-      pdo1 = pdoAfter tpdo1 (c .pdo1) (ownKey k) v;
+      pdo1 = pdoAfter tpdo1 (c .pdo1) k v;
       pdo2 = pdoAfter tpdo2 (c .pdo2) k v;
     }
 
@@ -68,9 +64,9 @@ Fits p k v = k ≡ presetKey → v < p .range
 abbrev pub savedAfter : Device → ℕ → Settings
 savedAfter d k = cond (eqb k saveKey) (d .settings) (cond (eqb k loadKey) (factory (d .node)) (d .saved))
 
--- The device after v was written to the entry of key k.
-unfoldable pub written : Device → ℕ → ℕ → Device
-written d k v =
+-- The device after what has the name k got v: a setting, the error list, or the saved set.
+unfoldable pub put : Device → ℕ → ℕ → Device
+put d k v =
     record {
       node = d .node;
       identity = d .identity;
@@ -82,3 +78,11 @@ written d k v =
       };
       saved = savedAfter d k;
     }
+
+-- The name of what a write to the entry of key k alters: that key; of 6200-0, which is 1800-5 under a second index, that of 1800-5.
+abbrev pub ownKey : ℕ → ℕ
+ownKey k = cond (eqb k cycleKey) (eventKeyOf tpdo1) k
+
+-- The device after v was written to the entry of key k.
+abbrev pub written : Device → ℕ → ℕ → Device
+written d k v = put d (ownKey k) v

@@ -187,6 +187,26 @@ numberOf Position d o = position (d .settings .profile) (d .reading .raw)
 numberOf Status d o = d .settings .profile .operating + cond o 0x8000 0
 numberOf Offset d o = twos (d .settings .profile .offset)
 
+-- What a write to an entry of key k alters has this name: of a setting the key of its own entry, else k.
+abbrev pub named : Source → ℕ → ℕ
+named (Fixed n) k = k
+named (Setting own) k = own
+named Register k = k
+named ErrorCount k = k
+named Save k = k
+named Load k = k
+named (Name n) k = k
+named Vendor k = k
+named Product k = k
+named Revision k = k
+named Serial k = k
+named Position k = k
+named Status k = k
+named Offset k = k
+
+abbrev pub target : Row → ℕ
+target r = named (source r) (key r)
+
 -- no entry, and so past the end of the list
 abbrev pub noRow : Row
 noRow = (0, 0, ro, Nothing, Never, Fixed 0)

@@ -1,7 +1,7 @@
 //! The list of entries, in index order, one line for each, and the search in it. 01, "Entries".
 ghost use mathlib.Core.Path.{_≡_};
 ghost use Prim.Native.Nat.{_<_, _≤_};
-ghost use Rattle.entries.specs.Table.{keyOf, rowOfKey, lookup};
+ghost use Rattle.entries.specs.Table.{keyOf, rowOfKey, lookup, target as targetIn};
 use Accepted::All;
 use Accepted::BelowRange;
 use Accepted::Between;
@@ -122,8 +122,6 @@ pub const RANGE: u32 = 0x6002_00;
 pub const PRESET: u32 = 0x6003_00;
 
 pub const STEP: u32 = 0x6005_01;
-
-pub const CYCLE: u32 = 0x6200_00;
 
 // The first key of each part of the list but the first.
 const AT_1011: u32 = 0x1011_00;
@@ -272,6 +270,17 @@ fn from_6000(k: u32) -> Row
         0x6509_00 => Row(k, S32, RO, Nothing, Never, Offset),
         _ => NO_ROW,
     }
+}
+
+// What a write to the entry alters: the setting that the row names, or what its own key names.
+pub fn target(row: Row) -> u32
+    ensures { λ r. ⌜ r ≡ targetIn row ⌝ }
+{
+    let source = row.5;
+    let Setting(own) = source else {
+        return row.0;
+    };
+    own
 }
 
 pub fn key_of(index: u16, sub: u8) -> u32

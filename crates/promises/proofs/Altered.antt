@@ -7,7 +7,7 @@ use Rattle.cases.proofs.Cases.{by}
 use Rattle.can.specs.declared.Received.{Received}
 use Rattle.position.specs.Profile.{highestRaw}
 use Rattle.entries.specs.declared.Device.{Device}
-use Rattle.dictionary.specs.Writes.{written}
+use Rattle.dictionary.specs.Writes.{put}
 use Rattle.sdo.specs.declared.reply.Effect.{Effect}
 use Rattle.sdo.specs.declared.reply.Effect.the-variants.{Nothing, Reply, Write}
 use Rattle.sdo.specs.Reply.{carriedOut}
@@ -28,7 +28,7 @@ use Rattle.promises.proofs.Causes.{Cause, cause}
 
 -- a request alters neither the node number nor the reading
 pub carried : (d : Device) (e : Effect) → (carriedOut d e .node ≡ d .node) × (carriedOut d e .reading ≡ d .reading)
-unfolding written
+unfolding put
 carried d Nothing = (refl, refl)
 carried d Reply = (refl, refl)
 carried d (Write k v) = (refl, refl)

@@ -1,11 +1,12 @@
 -- The heartbeat's timer is the remainder of the ticks that the calls count.
 use Prim.Native.Nat.{ℕ, suc}
 use lib.Dec.{eqb}
-use mathlib.Core.Path.{_≡_, ap₂}
+use mathlib.Core.Path.{_≡_, refl, ap₂}
 use mathlib.Core.Bool.{Bool, false, _||_, cond}
 use Rattle.cases.proofs.Cases.{test, true-false}
 use Rattle.entries.specs.Keys.{heartbeatKey}
-use Rattle.dictionary.specs.Writes.{written}
+use Rattle.dictionary.specs.Writes.{put}
+use Rattle.dictionary.proofs.Own.{own-other}
 use Rattle.sdo.specs.declared.reply.Effect.{Effect}
 use Rattle.sdo.specs.declared.reply.Effect.the-variants.{Nothing, Reply, Write}
 use Rattle.sdo.specs.Reply.{carriedOut}
@@ -33,7 +34,7 @@ beatBy m n = cond (m .boots || effectTo isPeriod (m .effect)) 0 (cond (m .times)
 module _ (c : Core) (n : ℕ) where
   by-write : (e : Effect) → Rest (communication c .heartbeat) (c .timers .heartbeat) n
       → Rest (carriedOut (c .device) e .settings .communication .heartbeat) (timersAfter c e .heartbeat) (cond (effectTo isPeriod e) 0 n)
-  unfolding written
+  unfolding put
   by-write Nothing r = r
   by-write Reply r = r
   by-write (Write k v) r = test (eqb k heartbeatKey) (λ e. rw e (anew v)) (λ e. rw e r)
@@ -58,7 +59,7 @@ module _ (h : Head) (n : ℕ) (v : Valid h) (x : Call) where
   same-count : countBy beatsAnew beatCounts h x n ≡ beatBy (marks (meant h x)) n
   same-count =
       let t = tested h v x in
-      ap₂ (λ (anew ticks : Bool). cond anew 0 (cond ticks (suc n) n)) (ap₂ (λ (a b : Bool). a || b) (t .boots) (t .written isPeriod))
+      ap₂ (λ (anew ticks : Bool). cond anew 0 (cond ticks (suc n) n)) (ap₂ (λ (a b : Bool). a || b) (t .boots) (t .written isPeriod (λ k _. own-other k heartbeatKey refl refl)))
       (t .beats)
 
   pub beats-step : Beats (h .core) n → Beats (step h x .core) (countBy beatsAnew beatCounts h x n)

@@ -8,6 +8,7 @@ use borrow.Author.Tests.{eqb-true, eq-eqb, ne-eqb, leb-true, not-true}
 use Rattle.cases.proofs.Cases.{by, both}
 use Rattle.can.specs.declared.Received.{Received}
 use Rattle.can.specs.Frame.{refusalOf}
+use Rattle.dictionary.specs.Writes.{ownKey}
 use Rattle.sdo.specs.Reply.{replies, confirmed}
 use Rattle.sdo.specs.Service.{Due, answer}
 use Rattle.waiting.specs.Line as line
@@ -69,7 +70,7 @@ module _ (h : Head) (f : Received) (v : Valid h) where
   pub means : Requests h f → {y : Due} → dueTo h f ≡ y → meant h (receive f) ≡ served (answer (f .bytes) y)
   means r e = requests r ∙ ap (λ y. served (answer (f .bytes) y)) e
 
-  pub writes : {k n : ℕ} → Writes h f k n → step h (receive f) .core ≡ acted (h .core) (serve (confirmed (f .bytes) k n))
+  pub writes : {k n : ℕ} → Writes h f k n → step h (receive f) .core ≡ acted (h .core) (serve (confirmed (f .bytes) (ownKey k) n))
   writes w = core-step h (receive f) ∙ ap (acted (h .core)) (means (w .requests) (w .accepted))
 
   by-command : (x : Heard h f) → f .identifier ≡ 0x000 → (k : Command) → commandOf (node (h .core)) f ≡ k

@@ -2,14 +2,16 @@
 use Prim.Native.Nat.{ℕ, suc}
 use lib.Dec.{eqb}
 use mathlib.Core.Path.{_≡_, refl, sym, ap, ap₂, subst, _∙_}
-use mathlib.Core.Bool.{Bool, true, false, not, _&&_, _||_, cond, and-comm, not-and-self}
+use mathlib.Core.Bool.{Bool, true, false, not, _&&_, _||_, cond, and-comm, not-and-self, or-false}
 use mathlib.Core.List.{List}
 use Rattle.cases.specs.Tests.{within}
-use Rattle.cases.proofs.Cases.{by₂, test, true-false}
+use Rattle.cases.proofs.Cases.{by, by₂, test, true-false}
 use Rattle.entries.specs.declared.Communication.{Communication}
 use Rattle.entries.specs.declared.table.Found.{Found}
 use Rattle.dictionary.specs.Accepted.{on, barred}
-use Rattle.dictionary.specs.Writes.{communicationAfter, written}
+use Rattle.dictionary.specs.Writes.{ownKey, communicationAfter, put}
+use Rattle.dictionary.proofs.Own.{own-other}
+use Rattle.entries.specs.Keys.{cycleKey}
 use Rattle.sdo.specs.declared.reply.Effect.{Effect}
 use Rattle.sdo.specs.declared.reply.Effect.the-variants.{Nothing, Reply, Write}
 use Rattle.sdo.specs.declared.reply.Served.{Served}
@@ -38,7 +40,7 @@ use Rattle.promises.proofs.Counts.{own-key, free, unbarred}
 use Rattle.promises.proofs.Meant.{core-step}
 use Rattle.promises.proofs.Conditions.{identifier-written, transmission-kept}
 use Rattle.promises.proofs.Remainders.{Rest, anew, one-more}
-use Rattle.promises.proofs.Tested.{Marks, marks, effectTo, tested}
+use Rattle.promises.proofs.Tested.{Marks, marks, effectTo, Own, tested}
 
 -- what becomes of one PDO's clock
 module _ (s : Communication) (t : Timers) where
@@ -59,22 +61,33 @@ module _ (s : Communication) (t : Timers) where
   clock-synced two = refl
 
   clock-written : (k v : ℕ) (later : Communication) (w : PdoNumber)
-      → clock (timersWritten k s later t) w ≡ clockWritten (isSub5 w k v) (pdo s w) (pdo later w) (clock t w)
-  clock-written k v later one = refl
-  clock-written k v later two = refl
+      → clock (timersWritten (ownKey k) s later t) w ≡ clockWritten (isSub5 w k v) (pdo s w) (pdo later w) (clock t w)
+  clock-written k v later one = rw (own-key k)
+  clock-written k v later two = rw (own-other k 0x1801_05 refl refl)
 
 module _ (s : Communication) (k v : ℕ) where
   -- only a write to sub 5 alters the event time
-  event-kept : (w : PdoNumber) → isSub5 w k v ≡ false → pdo (communicationAfter s k v) w .event ≡ pdo s w .event
+  event-kept : (w : PdoNumber) → isSub5 w k v ≡ false → pdo (communicationAfter s (ownKey k) v) w .event ≡ pdo s w .event
   event-kept one e = rw (own-key k, e)
-  event-kept two e = rw e
+  event-kept two e = rw (own-other k 0x1801_05 refl refl, e)
 
   -- only a write to sub 1 that clears bit 31 switches on
-  switched : (w : PdoNumber) → switchedOn (pdo s w) (pdo (communicationAfter s k v) w) ≡ (isSwitch w k v && not (on (pdo s w .identifier)))
+  switched : (w : PdoNumber) → switchedOn (pdo s w) (pdo (communicationAfter s (ownKey k) v) w) ≡ (isSwitch w k v && not (on (pdo s w .identifier)))
   switched w =
       ap (λ i. not (on (pdo s w .identifier)) && on i) (identifier-written s k v w)
       ∙ test (eqb k (identifierKey w)) (λ e. rw e (and-comm (not (on (pdo s w .identifier))) (on v)))
       (λ e. rw e (not-and-self (on (pdo s w .identifier))))
+
+-- a write to 6200h is one to sub 5
+own-sub5 : (w : PdoNumber) → Own (isSub5 w)
+own-sub5 one k v =
+    let named = by (λ n. eqb n cycleKey ≡ false) (eqb k cycleKey) (λ _. refl) (λ e. e) in
+    ap₂ (λ s t. s || t) (own-key k) named ∙ or-false (eqb k 0x1800_05 || eqb k cycleKey)
+own-sub5 two k v = own-other k 0x1801_05 refl refl
+
+own-switch : (w : PdoNumber) → Own (isSwitch w)
+own-switch one k v = rw (own-other k (identifierKey one) refl refl)
+own-switch two k v = rw (own-other k (identifierKey two) refl refl)
 
 -- a count that restarts together with the count of the calls
 restarted : (sub5 switched : Bool) (period before t n : ℕ) → (sub5 ≡ false → period ≡ before) → Rest before t n
@@ -112,15 +125,20 @@ module _ (w : PdoNumber) (c : Core) (n : ℕ) where
   abbrev t : Timers
   t = c .timers
 
-  ticks-written : (e : Effect) → Rest (pdo s w .event) (clock t w .ticks) n
-      → Rest (pdo (carriedOut (c .device) e .settings .communication) w .event) (clock (timersAfter c e) w .ticks)
+  abbrev TicksBy : Effect → Type 0
+  TicksBy e =
+      Rest (pdo (carriedOut (c .device) e .settings .communication) w .event) (clock (timersAfter c e) w .ticks)
       (cond (effectTo (isSwitch w) e && not (on (pdo s w .identifier)) || effectTo (isSub5 w) e) 0 n)
-  unfolding written
-  ticks-written Nothing r = r
-  ticks-written Reply r = r
-  ticks-written (Write k v) r =
-      let later = communicationAfter s k v in
-      rw (clock-written s t k v later w, ← switched s k v w)
+
+  ticks-due : (q : List ℕ) (d : Due) → Rest (pdo s w .event) (clock t w .ticks) n → TicksBy (answer q d .effect)
+  unfolding put
+  ticks-due q none r = r
+  ticks-due q (value u m) r = r
+  ticks-due q (abort code) r = r
+  ticks-due q (upload b u) r = r
+  ticks-due q (confirmation k v) r =
+      let later = communicationAfter s (ownKey k) v in
+      rw (clock-written s t k v later w, own-switch w k v, own-sub5 w k v, ← switched s k v w)
       (restarted (isSub5 w k v) (switchedOn (pdo s w) (pdo later w)) (pdo later w .event) (pdo s w .event) (clock t w .ticks) n
       (event-kept s k v w) r)
 
@@ -140,7 +158,9 @@ module _ (w : PdoNumber) (c : Core) (n : ℕ) where
   ticks-act b lose f r o = r o
   ticks-act b time f r o = rw (clock-ticked s t (isIn operational c) w, o) (one-more _ _ _ (r o))
   ticks-act b sync f r o = rw (clock-synced s t w) (r o)
-  ticks-act b (serve x) f r o = ticks-written (x .effect) (r o)
+  ticks-act b (serve x) f r o =
+      let q = f .1 .1 .0 in
+      subst TicksBy (ap (λ (u : Served). u .effect) (sym (f .1 .1 .1))) (ticks-due q (dueIn (c .device) (isIn operational c) (f .1 .0) q) (r o))
 
   abbrev SyncsBy : Effect → Type 0
   SyncsBy e =
@@ -150,11 +170,11 @@ module _ (w : PdoNumber) (c : Core) (n : ℕ) where
       → Rest (later .transmission) (clock (timersAfter c e) w .syncs) (cond (effectTo (isSwitch w) e && not (on (pdo s w .identifier))) 0 n)
 
   module _ (o : isIn operational c ≡ true) (r : Syncs w c n) where
-    syncs-written : (k v : ℕ) → barred (c .device) k v ≡ false → SyncsBy (Write k v)
-    unfolding written
+    syncs-written : (k v : ℕ) → barred (c .device) k v ≡ false → SyncsBy (Write (ownKey k) v)
+    unfolding put
     syncs-written k v e y z =
-        let later = communicationAfter s k v in
-        rw (clock-written s t k v later w, ← switched s k v w)
+        let later = communicationAfter s (ownKey k) v in
+        rw (clock-written s t k v later w, own-switch w k v, ← switched s k v w)
         (by₂ (Rest (pdo later w .transmission)) (switchedOn (pdo s w) (pdo later w))
         (λ _. anew (pdo later w .transmission))
         (λ m.
@@ -193,13 +213,13 @@ module _ (w : PdoNumber) (c : Core) (n : ℕ) where
 
 module _ (w : PdoNumber) (h : Head) (n : ℕ) (v : Valid h) (x : Call) where
   same-begun : syncsAnew w h x ≡ begun w (h .core) (marks (meant h x))
-  same-begun = ap₂ (λ (e o : Bool). e || o && not (on (pdoOf h w .identifier))) (tested h v x .enters) (tested h v x .written (isSwitch w))
+  same-begun = ap₂ (λ (e o : Bool). e || o && not (on (pdoOf h w .identifier))) (tested h v x .enters) (tested h v x .written (isSwitch w) (own-switch w))
 
   pub ticks-step : Ticks w (h .core) n → Ticks w (step h x .core) (countBy (ticksAnew w) tickCounts h x n)
   ticks-step r =
       let same : countBy (ticksAnew w) tickCounts h x n ≡ tickBy w (h .core) (marks (meant h x)) n =
       ap₂ (λ (anew ticks : Bool). cond anew 0 (cond ticks (suc n) n))
-      (ap₂ (λ (b e : Bool). b || e) same-begun (tested h v x .written (isSub5 w))) (tested h v x .ticks) in
+      (ap₂ (λ (b e : Bool). b || e) same-begun (tested h v x .written (isSub5 w) (own-sub5 w))) (tested h v x .ticks) in
       rw (same, core-step h x) (ticks-act w (h .core) n (isSlot x) (meant h x) (fits h x) r)
 
   pub syncs-step : Syncs w (h .core) n → Syncs w (step h x .core) (countBy (syncsAnew w) synchronises h x n)

@@ -10,7 +10,8 @@ use Rattle.cases.proofs.Cases.{both, test}
 use Rattle.entries.specs.declared.Communication.{Communication}
 use Rattle.entries.specs.Keys.{identifierKeyOf, tpdo1, cycleKey, emergencyKey, heartbeatKey}
 use Rattle.dictionary.specs.Accepted.{on, pdoBarred, barred}
-use Rattle.dictionary.specs.Writes.{ownKey, communicationAfter, written}
+use Rattle.dictionary.specs.Writes.{ownKey, communicationAfter, put}
+use Rattle.dictionary.proofs.Own.{own-other}
 use Rattle.sdo.specs.Reply.{confirmed}
 use Rattle.parts.specs.declared.Core.{Core}
 use Rattle.promises.specs.States.{operational, isIn, isInitialising, isLive, good, communication, PdoNumber, one, two, pdo}
@@ -67,37 +68,33 @@ keeps c w y =
     let t = both (isIn operational c) (on (p .identifier)) (u .0) in
     record { operates = t .0; is-on = t .1; lasts = u .1 }
 
--- 6200h is 1800-5, and no identifier
-pub own-identifier : (k : ℕ) → eqb (ownKey k) (identifierKeyOf tpdo1) ≡ eqb k (identifierKeyOf tpdo1)
-own-identifier k = test (eqb k cycleKey) (λ e. rw (eqb-true k cycleKey e)) (λ e. rw e)
-
 module _ (s : Communication) (k v : ℕ) where
   pub identifier-written : (w : PdoNumber)
-      → pdo (communicationAfter s k v) w .identifier ≡ cond (eqb k (identifierKey w)) v (pdo s w .identifier)
-  identifier-written one = rw (own-identifier k)
-  identifier-written two = refl
+      → pdo (communicationAfter s (ownKey k) v) w .identifier ≡ cond (eqb k (identifierKey w)) v (pdo s w .identifier)
+  identifier-written one = rw (own-other k (identifierKey one) refl refl)
+  identifier-written two = rw (own-other k (identifierKey two) refl refl)
 
   -- While a PDO is on its type cannot be written.
   pub transmission-kept : (w : PdoNumber) → pdoBarred (pdoIndex w) (pdo s w) k v ≡ false → on (pdo s w .identifier) ≡ true
-      → pdo (communicationAfter s k v) w .transmission ≡ pdo s w .transmission
-  transmission-kept one e o = rw (type-kept 0x1800 (s .pdo1) (ownKey k) v (own-free (s .pdo1) k v e) o)
-  transmission-kept two e o = rw (type-kept 0x1801 (s .pdo2) k v e o)
+      → pdo (communicationAfter s (ownKey k) v) w .transmission ≡ pdo s w .transmission
+  transmission-kept one e o = rw (type-kept 0x1800 (s .pdo1) (ownKey k) v (own-free one (s .pdo1) k v e) o)
+  transmission-kept two e o = rw (type-kept 0x1801 (s .pdo2) (ownKey k) v (own-free two (s .pdo2) k v e) o)
 
 -- A write of v to the entry of key k: 1014h alters the emergency's condition, 1017h the heartbeat's, a PDO's sub 1 that of the PDO.
 module _ (c : Core) (f : List ℕ) (k v : ℕ) where
-  pub alert-written : mayStay (acted c (serve (confirmed f k v))) emergency
+  pub alert-written : mayStay (acted c (serve (confirmed f (ownKey k) v))) emergency
       ≡ mayAlert (c .nmt) (cond (eqb k emergencyKey) v (communication c .emergency)) (c .timers .inhibit) (good c) (c .announced)
-  unfolding written
-  alert-written = refl
+  unfolding put
+  alert-written = rw (own-other k emergencyKey refl refl)
 
-  pub beat-written : mayStay (acted c (serve (confirmed f k v))) heartbeat
+  pub beat-written : mayStay (acted c (serve (confirmed f (ownKey k) v))) heartbeat
       ≡ mayBeat (c .nmt) (cond (eqb k heartbeatKey) v (communication c .heartbeat))
-  unfolding written
-  beat-written = refl
+  unfolding put
+  beat-written = rw (own-other k heartbeatKey refl refl)
 
   pub show-written : (w : PdoNumber)
-      → mayStay (acted c (serve (confirmed f k v))) (tpdo w) ≡ mayKeep (c .nmt) (pdo (communicationAfter (communication c) k v) w) (good c)
-  unfolding written
+      → mayStay (acted c (serve (confirmed f (ownKey k) v))) (tpdo w) ≡ mayKeep (c .nmt) (pdo (communicationAfter (communication c) (ownKey k) v) w) (good c)
+  unfolding put
   show-written w = refl
 
 -- A write of v ends a condition exactly if the condition depends on the written setting (t says so) and v ends it.
@@ -115,18 +112,18 @@ module _ (c : Core) (t : Bool) (v : ℕ) where
 
 -- a PDO that is on keeps its type, and so a frame that may stay is switched off or stays
 kept-on : (c : Core) (k v : ℕ) → barred (c .device) k v ≡ false → (w : PdoNumber) → mayStay c (tpdo w) ≡ true
-    → mayKeep (c .nmt) (pdo (communicationAfter (communication c) k v) w) (good c)
+    → mayKeep (c .nmt) (pdo (communicationAfter (communication c) (ownKey k) v) w) (good c)
     ≡ mayShow (c .nmt) (cond (eqb k (identifierKey w)) v (pdo (communication c) w .identifier)) true
 kept-on c k v free-so w m =
     let s = communication c in
     let held = keeps c w m in
     let same = transmission-kept s k v w (free (c .device) k v free-so w) (held .is-on) in
-    let lasts : (synchronous (pdo (communicationAfter s k v) w) || good c) ≡ true =
+    let lasts : (synchronous (pdo (communicationAfter s (ownKey k) v) w) || good c) ≡ true =
     ap (λ t. within 1 240 t || good c) same ∙ held .lasts in
     rw (lasts, identifier-written s k v w)
 
 pub ends : (c : Core) (f : List ℕ) (k v : ℕ) → barred (c .device) k v ≡ false → (x : Kind) → mayStay c x ≡ true
-    → not (mayStay (acted c (serve (confirmed f k v))) x) ≡ takes k v x
+    → not (mayStay (acted c (serve (confirmed f (ownKey k) v))) x) ≡ takes k v x
 ends c f k v b emergency m = ap not (alert-written c f k v) ∙ alert-ends c (eqb k emergencyKey) v m
 ends c f k v b sdoReply m = ap not m
 ends c f k v b heartbeat m = ap not (beat-written c f k v) ∙ beat-ends c (eqb k heartbeatKey) v m

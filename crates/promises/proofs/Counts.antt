@@ -14,7 +14,7 @@ use Rattle.entries.specs.declared.table.Found.{Found}
 use Rattle.entries.specs.Table.{missing, rowAt}
 use Rattle.entries.specs.Keys.{cycleKey, eventKeyOf, tpdo1, rangeKey, presetKey, stepKey, heartbeatKey}
 use Rattle.dictionary.specs.Accepted.{pdoBarred, barred}
-use Rattle.dictionary.specs.Writes.{ownKey, written}
+use Rattle.dictionary.specs.Writes.{ownKey, put}
 use Rattle.dictionary.specs.Valid.{ValidDevice}
 use Rattle.dictionary.proofs.Accepted.{taken}
 use Rattle.position.specs.Position.{bit, scalingBit}
@@ -53,13 +53,14 @@ pub own-key : (k : ℕ) → eqb (ownKey k) (eventKeyOf tpdo1) ≡ (eqb k (eventK
 own-key k =
     test (eqb k cycleKey) (λ e. rw e (sym (or-true (eqb k (eventKeyOf tpdo1))))) (λ e. rw e (sym (or-false (eqb k (eventKeyOf tpdo1)))))
 
-pub own-free : (p : Pdo) (k n : ℕ) → pdoBarred 0x1800 p k n ≡ false → pdoBarred 0x1800 p (ownKey k) n ≡ false
-own-free p k n free = by (λ j. pdoBarred 0x1800 p j n ≡ false) (eqb k cycleKey) (λ _. refl) (λ _. free)
-
 -- 1800h, 1801h
 abbrev pub pdoIndex : PdoNumber → ℕ
 pdoIndex one = 0x1800
 pdoIndex two = 0x1801
+
+pub own-free : (w : PdoNumber) (p : Pdo) (k n : ℕ) → pdoBarred (pdoIndex w) p k n ≡ false → pdoBarred (pdoIndex w) p (ownKey k) n ≡ false
+own-free one p k n free = by (λ j. pdoBarred 0x1800 p j n ≡ false) (eqb k cycleKey) (λ _. refl) (λ _. free)
+own-free two p k n free = by (λ j. pdoBarred 0x1801 p j n ≡ false) (eqb k cycleKey) (λ _. refl) (λ _. free)
 
 -- a write that is confirmed is barred by neither PDO
 pub free : (d : Device) (k n : ℕ) → barred d k n ≡ false → (w : PdoNumber)
@@ -84,13 +85,12 @@ unbarred {d} {n = n} t = rw (t .key) (taken d (t .its-row) n (t .takes .unaborte
 
 module _ (c : Core) (v : ValidTimers (communication c) (c .timers)) where
   write-valid : (k n : ℕ) → barred (c .device) k n ≡ false
-      → ValidTimers (carriedOut (c .device) (Write k n) .settings .communication) (timersAfter c (Write k n))
-  unfolding written
+      → ValidTimers (carriedOut (c .device) (Write (ownKey k) n) .settings .communication) (timersAfter c (Write (ownKey k) n))
+  unfolding put
   write-valid k n e =
-      timers-are (v .inhibit) (by₂ Below (eqb k heartbeatKey) (λ _. inl refl) (λ _. v .heartbeat))
-      (rw (← own-key k) (written-valid (v .clocks one) 0x1800 (ownKey k) n
-      (own-free (communication c .pdo1) k n (free (c .device) k n e one))))
-      (written-valid (v .clocks two) 0x1801 k n (free (c .device) k n e two))
+      timers-are (v .inhibit) (by₂ Below (eqb (ownKey k) heartbeatKey) (λ _. inl refl) (λ _. v .heartbeat))
+      (written-valid (v .clocks one) 0x1800 (ownKey k) n (own-free one (communication c .pdo1) k n (free (c .device) k n e one)))
+      (written-valid (v .clocks two) 0x1801 (ownKey k) n (own-free two (communication c .pdo2) k n (free (c .device) k n e two)))
 
   told-valid : (o : Bool) (f : List ℕ) (x : Found) (y : Due) → Told (c .device) o f x y
       → let e = answer f y .effect in ValidTimers (carriedOut (c .device) e .settings .communication) (timersAfter c e)

@@ -15,9 +15,11 @@ use Rattle.entries.specs.Table.{keyOf, lookup}
 use Rattle.dictionary.specs.declared.read.Shown.{Shown}
 use Rattle.dictionary.specs.declared.read.Shown.the-variants.{Number}
 use Rattle.dictionary.specs.Reads.{readOf, reads}
-use Rattle.dictionary.specs.Writes.{written}
+use Rattle.dictionary.specs.Writes.{ownKey, written, put}
 use Rattle.dictionary.specs.Effects.{given, effects, anew, readBack}
 use Rattle.dictionary.proofs.Effects.{effect-laws}
+use Rattle.entries.specs.Keys.{saveKey, loadKey}
+use Rattle.dictionary.proofs.Own.{own-other}
 use Rattle.sdo.specs.Request.{indexOf, subOf}
 use Rattle.sdo.specs.Reply.{confirmed, segmented}
 use Rattle.sdo.specs.Service.{confirmation, answer}
@@ -103,14 +105,14 @@ module _ (h : Head) (f : Received) (valid : Valid h) (r : Requests h f) where
         (ap some (effect-laws .own-after d o (its .its-row) v (valid .device) (its .takes)))
 
     accepted : Effects f k v h (step h (receive f))
-    unfolding act settledTo written
+    unfolding act settledTo put
     accepted =
-        let after : Effects f k v h (withTransfer (act false h (serve (confirmed (f .bytes) k v))) (transferAfter h (receive f))) =
+        let after : Effects f k v h (withTransfer (act false h (serve (confirmed (f .bytes) (ownKey k) v))) (transferAfter h (receive f))) =
         record {
           entries = reads-anew;
           others = λ i j u. reads-anew i j ∙ untouched (effects d o k v) (keyOf i j) (reads d o i j) u;
           own = own;
-          saved = refl;
+          saved = rw (own-other k saveKey refl refl, own-other k loadKey refl refl);
           node = refl;
           identity = refl;
           reading = refl;

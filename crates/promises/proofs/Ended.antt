@@ -7,6 +7,7 @@ use Rattle.can.specs.declared.Received.{Received}
 use Rattle.position.specs.Profile.{highestRaw}
 use Rattle.entries.specs.Keys.{heartbeatKey, emergencyKey}
 use Rattle.dictionary.specs.Accepted.{on}
+use Rattle.dictionary.specs.Writes.{ownKey}
 use Rattle.sdo.specs.Reply.{confirmed}
 use Rattle.parts.specs.declared.Core.{Core}
 use Rattle.parts.specs.declared.Head.{Head}
@@ -30,7 +31,7 @@ use Rattle.promises.proofs.Types.{on-events}
 
 module _ (h : Head) (v : Valid h) where
   written-so : {f : Received} {j n : ℕ} → Writes h f j n → (k : Kind)
-      → mayStay (step h (receive f) .core) k ≡ mayStay (acted (h .core) (serve (confirmed (f .bytes) j n))) k
+      → mayStay (step h (receive f) .core) k ≡ mayStay (acted (h .core) (serve (confirmed (f .bytes) (ownKey j) n))) k
   written-so {f} x k = ap (λ c. mayStay c k) (writes h f v x)
 
   stopped-stay : (c : Core) (k : Kind) → c .nmt ≡ state stopped → (k ≡ heartbeat → ⊥) → mayStay c k ≡ false

@@ -16,10 +16,11 @@ use Rattle.entries.specs.Table.{table, lookup}
 use Rattle.entries.specs.Keys.{errorCountKey}
 use Rattle.dictionary.specs.declared.read.Shown.the-variants.{Number}
 use Rattle.dictionary.specs.Reads.{shown}
-use Rattle.dictionary.specs.Writes.{written}
+use Rattle.dictionary.specs.Writes.{written, put}
 use Rattle.dictionary.specs.Laws.{Shows}
 use Rattle.dictionary.proofs.ReadBack.{emptied}
 use Rattle.dictionary.proofs.Laws.{shows}
+use Rattle.dictionary.proofs.Own.{own-other}
 use Rattle.sdo.specs.Reply.{carriedOut}
 use Rattle.sdo.specs.Service.{Due, none, value, confirmation, abort, upload, answer}
 use Rattle.parts.specs.declared.Head.{Head}
@@ -66,15 +67,15 @@ counts (Raw r) e n q h =
 
 -- only a write to 1003-0 empties the list
 errors-due : (d : Device) (f : List ℕ) (y : Due) → confirms isCount y ≡ false → carriedOut d (answer f y .effect) .errors ≡ d .errors
-unfolding written
+unfolding put
 errors-due d f none n = refl
 errors-due d f (value w x) n = refl
-errors-due d f (confirmation k v) n = rw n
+errors-due d f (confirmation k v) n = rw (own-other k errorCountKey refl refl, n)
 errors-due d f (abort c) n = refl
 errors-due d f (upload b t) n = refl
 
 emptied-errors : (d : Device) (v : ℕ) → written d errorCountKey v .errors ≡ 0
-unfolding written
+unfolding put
 emptied-errors d v = refl
 
 module _ (h : Head) (f : Received) where

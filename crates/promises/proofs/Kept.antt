@@ -9,7 +9,8 @@ use Rattle.can.specs.declared.Received.{Received}
 use Rattle.entries.specs.declared.Device.{Device}
 use Rattle.entries.specs.declared.Settings.{Settings}
 use Rattle.entries.specs.Keys.{saveKey, loadKey}
-use Rattle.dictionary.specs.Writes.{written}
+use Rattle.dictionary.specs.Writes.{put}
+use Rattle.dictionary.proofs.Own.{own-other}
 use Rattle.sdo.specs.Reply.{carriedOut}
 use Rattle.sdo.specs.Service.{Due, none, value, confirmation, abort, upload, answer}
 use Rattle.parts.specs.declared.Head.{Head}
@@ -35,16 +36,17 @@ module _ (h : Head) (f : Received) (r : Requests h f) where
   settings-served (upload b t) e = inl refl
 
   saved-served : (y : Due) → dueTo h f ≡ y → Leaves (λ d. d .saved) Saves y
-  unfolding written
+  unfolding put
   saved-served none e = inl refl
   saved-served (value w m) e = inl refl
   saved-served (confirmation k v) e =
       let Kept : Settings → Type 0 = λ s. (s ≡ h .core .device .saved) ⊎ Saves h (receive f) in
-      by Kept (eqb k saveKey)
+      rw (own-other k saveKey refl refl, own-other k loadKey refl refl)
+      (by Kept (eqb k saveKey)
       (λ t. inr (v, inl (record { requests = r; accepted = e ∙ ap (λ x. confirmation x v) (eqb-true k saveKey t) })))
       (λ _. by Kept (eqb k loadKey)
       (λ t. inr (v, inr (record { requests = r; accepted = e ∙ ap (λ x. confirmation x v) (eqb-true k loadKey t) })))
-      (λ _. inl refl))
+      (λ _. inl refl)))
   saved-served (abort code) e = inl refl
   saved-served (upload b t) e = inl refl
 

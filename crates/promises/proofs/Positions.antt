@@ -20,8 +20,9 @@ use Rattle.dictionary.specs.declared.read.Shown.the-variants.{Blank, Number}
 use Rattle.cases.specs.Tests.{within}
 use Rattle.waiting.specs.Line.{first}
 use Rattle.waiting.specs.Places.{waiting}
-use Rattle.dictionary.specs.Writes.{rescales, written}
+use Rattle.dictionary.specs.Writes.{rescales, written, put}
 use Rattle.dictionary.specs.Effects.{effects, anew}
+use Rattle.dictionary.proofs.Own.{own-profile}
 use Rattle.sdo.specs.Reply.{carriedOut}
 use Rattle.sdo.specs.Service.{Due, none, value, confirmation, abort, upload, answer}
 use Rattle.parts.specs.declared.Core.{Core}
@@ -59,15 +60,15 @@ shows-good d e = ap (λ (g : Bool). some (cond (not g) Blank (Number (position (
 
 -- no other write, but those that rescale, alters the profile
 profile-kept : (d : Device) (k v : ℕ) → repositions k ≡ false → written d k v .settings .profile ≡ d .settings .profile
-unfolding written
+unfolding put
 profile-kept d k v e =
     let a = neither (rescales k) (eqb k presetKey) e in
     let b = neither (eqb k operatingKey || eqb k rangeKey) (eqb k stepKey) (a .0) in
     let c = neither (eqb k operatingKey) (eqb k rangeKey) (b .0) in
-    rw (c .0, c .1, b .1, a .1)
+    own-profile (d .settings .profile) (d .reading .raw) k v ∙ rw (c .0, c .1, b .1, a .1)
 
 showing-kept : (d : Device) (k v : ℕ) → repositions k ≡ false → showing (written d k v) ≡ showing d
-unfolding written
+unfolding put
 showing-kept d k v e =
     ap (λ (p : Profile). some (shownAs p (d .reading))) (profile-kept d k v e)
 

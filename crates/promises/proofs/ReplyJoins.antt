@@ -16,7 +16,7 @@ use Rattle.waiting.proofs.Order.{join-is}
 use Rattle.waiting.proofs.After.{has-append, has-withdraws}
 use Rattle.entries.specs.Keys.{emergencyKey}
 use Rattle.dictionary.specs.Accepted.{on, barred}
-use Rattle.dictionary.specs.Writes.{written}
+use Rattle.dictionary.specs.Writes.{ownKey, put}
 use Rattle.sdo.specs.declared.reply.Effect.the-variants.{Reply}
 use Rattle.sdo.specs.declared.reply.Served.{Served}
 use Rattle.sdo.specs.Reply.{confirmed, segmented}
@@ -32,7 +32,7 @@ use Rattle.promises.specs.Effects.{takes, brings}
 use Rattle.promises.proofs.KindNumbers.{kindAt, number-is, has-those}
 use Rattle.promises.proofs.Waits.{holds-act}
 use Rattle.promises.proofs.Valid.{emergency-exactly}
-use Rattle.promises.proofs.Conditions.{ends}
+use Rattle.promises.proofs.Conditions.{alert-written, ends}
 
 pub none-withdrawn : (ks : List ℕ) → withdraws [] ks ≡ []
 none-withdrawn [] = refl
@@ -133,10 +133,10 @@ module _ (h : Head) (valid : Valid h) (l : isLive (h .core) ≡ true) (free : wa
 
   -- an accepted write
   pub write-line : (f : List ℕ) (k v : ℕ) → barred (c .device) k v ≡ false
-      → waiting (act false h (serve (confirmed f k v)) .line) ≡ withdraws ws (those (takes k v)) ++ those (brings h k v)
-  unfolding written
+      → waiting (act false h (serve (confirmed f (ownKey k) v)) .line) ≡ withdraws ws (those (takes k v)) ++ those (brings h k v)
+  unfolding put
   write-line f k v b =
-      let now = serving c (confirmed f k v) in
+      let now = serving c (confirmed f (ownKey k) v) in
       let alike : (x : Kind) → has (number x) ws ≡ true → has (number x) (goes c now) ≡ has (number x) (those (takes k v)) =
       λ x w. has-those (λ y. mayStay c y && not (mayStay now y)) x
       ∙ ap (λ t. t && not (mayStay now x)) (valid .only x w)
@@ -147,12 +147,12 @@ module _ (h : Head) (valid : Valid h) (l : isLive (h .core) ≡ true) (free : wa
       let comes =
       begins (eqb k emergencyKey) (c .nmt) v (communication c .emergency) (c .timers .inhibit) (good c) (c .announced) (waits h emergency)
       (emergency-exactly h valid) in
-      served-line (confirmed f k v)
+      served-line (confirmed f (ownKey k) v)
       (withdrawn-alike ws (goes c now) (those (takes k v)) (valid .line .kinds) alike)
-      (ap (λ t. isAlerting now && not t) still ∙ comes)
+      (ap (λ t. isAlerting now && not t) still ∙ ap (λ t. t && not (not (takes k v emergency) && waits h emergency)) (alert-written c f k v) ∙ comes)
 
   pub write-waits : (f : List ℕ) (k v : ℕ) → barred (c .device) k v ≡ false → (x : Kind)
-      → waits (act false h (serve (confirmed f k v))) x ≡ ((not (takes k v x) && waits h x) || brings h k v x)
+      → waits (act false h (serve (confirmed f (ownKey k) v))) x ≡ ((not (takes k v x) && waits h x) || brings h k v x)
   write-waits f k v b x =
       let out = those (takes k v) in
       let into = those (brings h k v) in

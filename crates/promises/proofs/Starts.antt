@@ -19,7 +19,7 @@ use Rattle.entries.proofs.Laws.{laws as entries-laws}
 use Rattle.dictionary.specs.declared.read.Shown.the-variants.{Number}
 use Rattle.dictionary.specs.Reads.{shown, reads}
 use Rattle.dictionary.specs.Accepted.{on}
-use Rattle.dictionary.specs.Writes.{written}
+use Rattle.dictionary.specs.Writes.{put}
 use Rattle.dictionary.specs.Laws.{Shows}
 use Rattle.dictionary.proofs.Columns.{at-place}
 use Rattle.dictionary.proofs.Laws.{shows}
@@ -182,7 +182,7 @@ saved-is p = let e = powered-is p in ap (λ (h : Head). h .core .device .saved) 
 
 -- No request alters the identity, nor does any call.
 identity-carried : (d : Device) (e : Effect) → carriedOut d e .identity ≡ d .identity
-unfolding written
+unfolding put
 identity-carried d Nothing = refl
 identity-carried d Reply = refl
 identity-carried d (Write k v) = refl

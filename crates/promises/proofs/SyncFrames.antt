@@ -14,7 +14,7 @@ use Rattle.entries.specs.declared.Pdo.{Pdo}
 use Rattle.entries.specs.declared.Reading.{Reading}
 use Rattle.entries.specs.declared.table.Found.{Found}
 use Rattle.dictionary.specs.Accepted.{on}
-use Rattle.dictionary.specs.Writes.{written}
+use Rattle.dictionary.specs.Writes.{put}
 use Rattle.sdo.specs.declared.reply.Effect.{Effect}
 use Rattle.sdo.specs.declared.reply.Served.{Served}
 use Rattle.sdo.specs.Reply.{carriedOut}
@@ -174,7 +174,7 @@ module _ (c : Core) (w : PdoNumber) (is-on : on (pdo (communication c) w .identi
   Same e = pdo (carriedOut (c .device) e .settings .communication) w .transmission ≡ pdo (communication c) w .transmission
 
   type-told : (o : Bool) (q : List ℕ) (x : Found) (d : Due) → Told (c .device) o q x d → Same (answer q d .effect)
-  unfolding written
+  unfolding put
   type-told o q x none told = refl
   type-told o q x (value u m) told = refl
   type-told o q x (confirmation k n) told = transmission-kept (communication c) k n w (free (c .device) k n (unbarred told) w) is-on

@@ -15,7 +15,7 @@ use Rattle.can.specs.Number.{lowFirst}
 use Rattle.dictionary.specs.declared.read.Shown.{Shown}
 use Rattle.dictionary.specs.declared.read.Shown.the-variants.{Blank, Number}
 use Rattle.dictionary.specs.Accepted.{on}
-use Rattle.dictionary.specs.Writes.{written}
+use Rattle.dictionary.specs.Writes.{ownKey, put}
 use Rattle.sdo.specs.Reply.{confirmed}
 use Rattle.parts.specs.declared.Nmt.{Nmt}
 use Rattle.parts.specs.declared.Core.{Core}
@@ -51,8 +51,8 @@ is-number Blank = false
 is-number (Number n) = true
 
 identifier-after : (c : Core) (f : List ℕ) (k v : ℕ) (w : PdoNumber)
-    → pdo (communication (acted c (serve (confirmed f k v)))) w .identifier ≡ cond (eqb k (identifierKey w)) v (pdo (communication c) w .identifier)
-unfolding written
+    → pdo (communication (acted c (serve (confirmed f (ownKey k) v)))) w .identifier ≡ cond (eqb k (identifierKey w)) v (pdo (communication c) w .identifier)
+unfolding put
 identifier-after c f k v w = identifier-written (communication c) k v w
 
 -- no call but a slot takes it while the PDO stays switched on in Operational

@@ -9,6 +9,7 @@ use borrow.Author.Tests.{eqb-true, eq-eqb, ne-eqb, leb-true, le-leb, not-true}
 use native.Mathlib.Omega.{arith}
 use Rattle.cases.proofs.Cases.{by, test, both, true-false}
 use Rattle.can.specs.declared.Received.{Received}
+use Rattle.dictionary.specs.Writes.{ownKey}
 use Rattle.sdo.specs.declared.reply.Effect.{Effect}
 use Rattle.sdo.specs.declared.reply.Effect.the-variants.{Nothing, Reply, Write}
 use Rattle.sdo.specs.Service.{Due, none, value, confirmation, abort, upload, answer}
@@ -123,13 +124,17 @@ module _ (h : Head) (f : Received) where
         s .operational,
       )
 
+-- a test that takes an entry for what it names
+abbrev pub Own : (ℕ → ℕ → Bool) → Type 0
+Own t = (k v : ℕ) → t (ownKey k) v ≡ t k v
+
 -- what is due to a request, and the act
-due-to : (t : ℕ → ℕ → Bool) (f : List ℕ) (y : Due) → confirms t y ≡ effectTo t (marks (served (answer f y)) .effect)
-due-to t f none = refl
-due-to t f (value w n) = refl
-due-to t f (confirmation k v) = refl
-due-to t f (abort code) = refl
-due-to t f (upload b u) = refl
+due-to : (t : ℕ → ℕ → Bool) → Own t → (f : List ℕ) (y : Due) → confirms t y ≡ effectTo t (marks (served (answer f y)) .effect)
+due-to t own f none = refl
+due-to t own f (value w n) = refl
+due-to t own f (confirmation k v) = sym (own k v)
+due-to t own f (abort code) = refl
+due-to t own f (upload b u) = refl
 
 pub confirmed-by : (t : ℕ → ℕ → Bool) (y : Due) → confirms t y ≡ true → (k : ℕ) × (v : ℕ) × (t k v ≡ true) × (y ≡ confirmation k v)
 confirmed-by t none e = true-false (sym e)
@@ -150,7 +155,7 @@ is-written h f t = (as-write, λ w. rw (is-request h f .1 (w .3 .requests), w .3
 
 -- the tests of a call agree with its act
 pub record Tested (h : Head) (x : Call) (m : Marks) : Type 0 where
-  pub written : (t : ℕ → ℕ → Bool) → writes t h x ≡ effectTo t (m .effect)
+  pub written : (t : ℕ → ℕ → Bool) → Own t → writes t h x ≡ effectTo t (m .effect)
   pub boots : (isSlot x && isInitialising (h .core)) ≡ m .boots
   pub enters : entersOperational h x ≡ m .enters
   pub syncs : synchronises h x ≡ m .syncs
@@ -197,8 +202,8 @@ module _ (h : Head) (v : Valid h) where
       let o = otherwise f (meant h (receive f)) (cause h f v) in
       let wrote : (ℕ → ℕ → Bool) → Bool → Bool = λ t b. b && confirms t (dueTo h f) in
       record {
-        written = λ t. test (isRequest h f)
-            (λ e. ap (wrote t) e ∙ due-to t (f .bytes) (dueTo h f) ∙ ap (λ a. effectTo t (marks a .effect))
+        written = λ t own. test (isRequest h f)
+            (λ e. ap (wrote t) e ∙ due-to t own (f .bytes) (dueTo h f) ∙ ap (λ a. effectTo t (marks a .effect))
             (sym (requests h f v (is-request h f .0 e))))
             (λ e. ap (wrote t) e ∙ sym (o .unwritten e t));
         boots = sym (o .unbooted);
@@ -212,21 +217,21 @@ module _ (h : Head) (v : Valid h) where
       }
 
   of-sample : {s : Sensor} → Tested h (sample s) unmarked
-  of-sample = record { written = λ _. refl; boots = refl; enters = refl; syncs = refl; beats = refl; ticks = refl }
+  of-sample = record { written = λ _ _. refl; boots = refl; enters = refl; syncs = refl; beats = refl; ticks = refl }
 
   pub tested : (x : Call) → Tested h x (marks (meant h x))
   tested (receive f) = tested-frame f
   tested tick =
       by (λ a. Tested h tick (marks a)) (isInitialising (h .core))
       (λ i. record {
-        written = λ _. refl;
+        written = λ _ _. refl;
         boots = refl;
         enters = refl;
         syncs = refl;
         beats = ap not i;
         ticks = not-operational (h .core) i;
       })
-      (λ i. record { written = λ _. refl; boots = refl; enters = refl; syncs = refl; beats = ap not i; ticks = refl })
+      (λ i. record { written = λ _ _. refl; boots = refl; enters = refl; syncs = refl; beats = ap not i; ticks = refl })
   tested (sample Missing) = of-sample
   tested (sample (Raw r)) = by (λ a. Tested h (sample (Raw r)) (marks a)) (ltb highestRaw r) (λ _. of-sample) (λ _. of-sample)
   tested slot =
@@ -234,4 +239,4 @@ module _ (h : Head) (v : Valid h) where
       (λ i. sent-as (λ a. Tested h slot (marks a)) (first (h .line)) (at-slot i) (λ _. at-slot i))
     where
       at-slot : {b : Bool} → isInitialising (h .core) ≡ b → Tested h slot (mark Nothing b false false false)
-      at-slot i = record { written = λ _. refl; boots = i; enters = refl; syncs = refl; beats = refl; ticks = refl }
+      at-slot i = record { written = λ _ _. refl; boots = i; enters = refl; syncs = refl; beats = refl; ticks = refl }

@@ -7,7 +7,7 @@ use mathlib.Core.Bool.{Bool, not, _&&_, _||_, cond}
 use Rattle.cases.specs.Tests.{within}
 use Rattle.entries.specs.declared.Pdo.{Pdo}
 use Rattle.entries.specs.declared.Communication.{Communication}
-use Rattle.entries.specs.Keys.{heartbeatKey, cycleKey, eventKeyOf, tpdo1, tpdo2}
+use Rattle.entries.specs.Keys.{heartbeatKey, eventKeyOf, tpdo1, tpdo2}
 use Rattle.dictionary.specs.Accepted.{on}
 use Rattle.parts.specs.declared.Clock.{Clock}
 use Rattle.parts.specs.declared.Timers.{Timers}
@@ -90,6 +90,6 @@ timersWritten k before after t =
     record {
       inhibit = t .inhibit;
       heartbeat = cond (eqb k heartbeatKey) 0 (t .heartbeat);
-      pdo1 = clockWritten (eqb k (eventKeyOf tpdo1) || eqb k cycleKey) (before .pdo1) (after .pdo1) (t .pdo1);
+      pdo1 = clockWritten (eqb k (eventKeyOf tpdo1)) (before .pdo1) (after .pdo1) (t .pdo1);
       pdo2 = clockWritten (eqb k (eventKeyOf tpdo2)) (before .pdo2) (after .pdo2) (t .pdo2);
     }

@@ -4,7 +4,7 @@ use mathlib.Core.Path.{refl}
 use mathlib.Core.List.{_∷_, _++_}
 use Rattle.entries.specs.Table.{table, lookup}
 use Rattle.dictionary.specs.Reads.{shown}
-use Rattle.dictionary.specs.Writes.{written}
+use Rattle.dictionary.specs.Writes.{put}
 use Rattle.sdo.specs.Service.{due}
 use Rattle.sdo.specs.Upload.{dueIn}
 use Rattle.parts.specs.declared.Sensor.the-variants.{Missing}
@@ -18,15 +18,15 @@ use Rattle.runs.specs.Busy.{busyLine, untilTold, onward, busyMaster, hel
 use Rattle.runs.proofs.Node1.{power-up}
 
 unrelieved : Unrelieved 1 (step (after node1 busyLine) (sample Missing)) busyMaster
-unfolding table lookup shown written due dueIn act settledTo
+unfolding table lookup shown put due dueIn act settledTo
 unrelieved = record { missing = refl; alerting = refl; running = refl }
 
 unrelieved-still : Unrelieved 1 (after node1 (held ++ wait)) busyMaster
-unfolding table lookup shown written due dueIn act settledTo
+unfolding table lookup shown put due dueIn act settledTo
 unrelieved-still = record { missing = refl; alerting = refl; running = refl }
 
 pub busy-line : Busy
-unfolding table lookup shown written due dueIn act settledTo
+unfolding table lookup shown put due dueIn act settledTo
 busy-line =
     record {
       before = refl;

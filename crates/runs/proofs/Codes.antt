@@ -2,7 +2,7 @@
 use mathlib.Core.Path.{refl}
 use Rattle.entries.specs.Table.{table, lookup}
 use Rattle.dictionary.specs.Reads.{shown}
-use Rattle.dictionary.specs.Writes.{written}
+use Rattle.dictionary.specs.Writes.{put}
 use Rattle.sdo.specs.Service.{due}
 use Rattle.sdo.specs.Upload.{dueIn}
 use Rattle.promises.specs.States.{operational, stopped}
@@ -10,7 +10,7 @@ use Rattle.promises.specs.Acts.{reset, settledTo, act}
 use Rattle.runs.specs.Codes.{CodesMet}
 
 pub codes-met : CodesMet
-unfolding table lookup shown written due dueIn act settledTo
+unfolding table lookup shown put due dueIn act settledTo
 codes-met =
     record {
       pre-operational = record { is-first = refl; its-code = refl; sent = refl };

@@ -15,7 +15,7 @@ use Rattle.entries.specs.Settings.{pdo, factory}
 use Rattle.entries.specs.Table.{table, lookup}
 use Rattle.dictionary.specs.Accepted.{abortCode}
 use Rattle.dictionary.specs.Reads.{shown}
-use Rattle.dictionary.specs.Writes.{written}
+use Rattle.dictionary.specs.Writes.{put}
 use Rattle.dictionary.specs.Worked.{save, load, writes as allWrites}
 use Rattle.sdo.specs.Request.{indexOf, subOf}
 use Rattle.sdo.specs.Service.{confirmation, dueOf, due}
@@ -93,15 +93,15 @@ unfolding act settledTo
 to-fresh = refl
 
 to-one-off : after fresh off1 ≡ one-off
-unfolding table lookup written due dueIn act settledTo
+unfolding table lookup put due dueIn act settledTo
 to-one-off = refl
 
 to-both-off : after one-off off2 ≡ both-off
-unfolding table lookup written due dueIn act settledTo
+unfolding table lookup put due dueIn act settledTo
 to-both-off = refl
 
 to-scaled : after both-off scale ≡ scaled
-unfolding table lookup written due dueIn act settledTo
+unfolding table lookup put due dueIn act settledTo
 to-scaled = refl
 
 ready-is : after node1 ready ≡ scaled

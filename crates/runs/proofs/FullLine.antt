@@ -3,7 +3,7 @@ use mathlib.Core.Path.{refl}
 use mathlib.Core.List.{[], _∷_, _++_}
 use Rattle.entries.specs.Table.{table, lookup}
 use Rattle.dictionary.specs.Reads.{shown}
-use Rattle.dictionary.specs.Writes.{written}
+use Rattle.dictionary.specs.Writes.{put}
 use Rattle.sdo.specs.Service.{due}
 use Rattle.sdo.specs.Upload.{dueIn}
 use Rattle.promises.specs.Acts.{settledTo, act}
@@ -13,7 +13,7 @@ use Rattle.runs.specs.FullLine.{begun, full, FullLine}
 use Rattle.runs.proofs.Node1.{reached}
 
 pub full-line : FullLine
-unfolding table lookup shown written due dueIn act settledTo
+unfolding table lookup shown put due dueIn act settledTo
 full-line =
     record {
       no-slot = refl;

@@ -4,7 +4,7 @@ use mathlib.Core.Bool.{Bool, true, false, not}
 use Rattle.cases.proofs.Cases.{true-false}
 use Rattle.entries.specs.Table.{table, lookup}
 use Rattle.dictionary.specs.Reads.{shown}
-use Rattle.dictionary.specs.Writes.{written}
+use Rattle.dictionary.specs.Writes.{put}
 use Rattle.sdo.specs.Service.{due}
 use Rattle.sdo.specs.Upload.{dueIn}
 use Rattle.parts.specs.declared.Head.{Head}
@@ -31,7 +31,7 @@ still : (h : Head) (c : Call) → may-move c ≡ false → Moves h c → ⊥
 still h c e m = true-false (sym (moves-so h c m) ∙ e)
 
 pub positioning : Positioning
-unfolding table lookup shown written due dueIn act settledTo
+unfolding table lookup shown put due dueIn act settledTo
 positioning =
     record {
       blank-at-first = refl;

@@ -14,7 +14,7 @@ use Rattle.entries.specs.Settings.{pdo, factory}
 use Rattle.entries.specs.Table.{table, lookup}
 use Rattle.dictionary.specs.declared.read.Shown.the-variants.{Number}
 use Rattle.dictionary.specs.Reads.{shown}
-use Rattle.dictionary.specs.Writes.{written}
+use Rattle.dictionary.specs.Writes.{written, put}
 use Rattle.dictionary.specs.Worked.{save, load}
 use Rattle.sdo.specs.Service.{confirmation, due}
 use Rattle.sdo.specs.Upload.{dueIn}
@@ -53,7 +53,7 @@ unfolding act settledTo
 to-missing = refl
 
 to-settled : after (at 0 (pad 8 [])) (writes (bytes 0x2B 0x17 0x10 0x00 0xE8 0x03 0 0)) ≡ settled
-unfolding table lookup written due dueIn act settledTo
+unfolding table lookup put due dueIn act settledTo
 to-settled = refl
 
 beating-is : after node1 beating ≡ settled
@@ -84,7 +84,7 @@ module _ (b : List ℕ) (k v n : ℕ) where
       })
 
 pub met-by-save : MetBySave
-unfolding table lookup shown written due dueIn act settledTo
+unfolding table lookup shown put due dueIn act settledTo
 met-by-save =
     met (writing (0x1010_01, save) .bytes) 0x1010_01 save 1000 refl
     (λ x. x, (other-written _ _ 0x1017_00 500 refl refl refl, (λ x. x, tt)))
@@ -92,7 +92,7 @@ met-by-save =
     refl
 
 pub met-by-load : MetByLoad
-unfolding table lookup shown written due dueIn act settledTo
+unfolding table lookup shown put due dueIn act settledTo
 met-by-load =
     met (writing (0x1011_01, load) .bytes) 0x1011_01 load 0 refl
     (λ x. x, (other-written _ _ 0x1017_00 500 refl refl refl, (λ x. x, tt)))
@@ -100,5 +100,5 @@ met-by-load =
     refl
 
 pub restoring : Restoring
-unfolding table lookup shown written due dueIn act settledTo
+unfolding table lookup shown put due dueIn act settledTo
 restoring = record { saves = refl; changes = (refl, refl); all = (refl, refl); below = (refl, refl) }

@@ -2,7 +2,7 @@
 use mathlib.Core.Path.{refl}
 use Rattle.entries.specs.Table.{table, lookup}
 use Rattle.dictionary.specs.Reads.{shown}
-use Rattle.dictionary.specs.Writes.{written}
+use Rattle.dictionary.specs.Writes.{put}
 use Rattle.sdo.specs.Service.{due}
 use Rattle.sdo.specs.Upload.{dueIn}
 use Rattle.promises.specs.Acts.{settledTo, act}
@@ -10,7 +10,7 @@ use Rattle.promises.proofs.Service.{is-request}
 use Rattle.runs.specs.Service.{Serving}
 
 pub serving : Serving
-unfolding table lookup shown written due dueIn act settledTo
+unfolding table lookup shown put due dueIn act settledTo
 serving =
     record {
       requests = is-request _ _ .0 refl;

@@ -6,7 +6,7 @@ use mathlib.Core.Logic.{inr, ⊎-elim}
 use borrow.Author.Tests.{eqb-false}
 use Rattle.entries.specs.Table.{table, lookup}
 use Rattle.dictionary.specs.Reads.{shown}
-use Rattle.dictionary.specs.Writes.{written}
+use Rattle.dictionary.specs.Writes.{put}
 use Rattle.sdo.specs.Service.{Due, none, value, upload, confirmation, abort, due}
 use Rattle.sdo.specs.Upload.{dueIn}
 use Rattle.sdo.specs.Worked.{bytes}
@@ -29,7 +29,7 @@ keyIn (confirmation k v) = k
 keyIn (abort code) = 0
 
 pub starts-met : StartsMet
-unfolding table lookup shown written due dueIn act settledTo
+unfolding table lookup shown put due dueIn act settledTo
 starts-met =
     record {
       none-saves = (λ x. x, (λ x. x, (unsaving, (λ x. x, tt))));

@@ -5,7 +5,7 @@ use mathlib.Core.Path.{_≡_, refl}
 use mathlib.Core.List.{_++_}
 use Rattle.entries.specs.Table.{table, lookup}
 use Rattle.dictionary.specs.Reads.{shown}
-use Rattle.dictionary.specs.Writes.{written}
+use Rattle.dictionary.specs.Writes.{put}
 use Rattle.sdo.specs.Service.{due}
 use Rattle.sdo.specs.Upload.{dueIn}
 use Rattle.promises.specs.Acts.{settledTo, act}
@@ -21,15 +21,15 @@ of-type-1 = (omega arith, omega arith)
 
 module _ (p : PowerUp) (e : powered p ≡ node1) where
   first-head : Belongs p (running ++ often) two
-  unfolding table lookup shown written due dueIn act settledTo
+  unfolding table lookup shown put due dueIn act settledTo
   first-head = sync-frames .belongs p (running ++ often) two (rw e refl) (rw e of-type-1)
 
   second-head : Belongs p (running ++ seldom) two
-  unfolding table lookup shown written due dueIn act settledTo
+  unfolding table lookup shown put due dueIn act settledTo
   second-head = sync-frames .belongs p (running ++ seldom) two (rw e refl) (rw e of-type-1)
 
 pub fixed-at-sync : FixedAtSync
-unfolding table lookup shown written due dueIn act settledTo
+unfolding table lookup shown put due dueIn act settledTo
 fixed-at-sync =
     record {
       fixed = refl;

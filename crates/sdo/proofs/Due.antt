@@ -12,10 +12,13 @@ use Rattle.entries.specs.declared.Device.{Device}
 use Rattle.entries.specs.declared.table.Found.{Found}
 use Rattle.entries.specs.declared.table.Found.the-variants.{At, NoSubIndex, NoIndex}
 use Rattle.entries.specs.Table.{key, width, isRw, accepted, lookup}
+use Rattle.entries.proofs.Laws.{laws as entries-laws}
 use Rattle.dictionary.specs.declared.read.Shown.{Shown}
 use Rattle.dictionary.specs.declared.read.Shown.the-variants.{Blank, Number}
 use Rattle.dictionary.specs.Reads.{shown}
 use Rattle.dictionary.specs.Accepted.{acceptsIn, isSignature, barred, abortCode}
+use Rattle.dictionary.specs.Writes.{ownKey}
+use Rattle.dictionary.proofs.Laws.{laws}
 use Rattle.dictionary.specs.AbortCodes.{invalidValue, wrongSignature, deviceState}
 use Rattle.sdo.specs.AbortCodes.{readOnly, tooLong, tooShort, shownCode}
 use Rattle.sdo.specs.Request.{byte, indexOf, subOf, dataOf, aborting, reading, writing, takenApart}
@@ -33,7 +36,7 @@ code rw long short accepted sign bar =
     readOnly
 
 write-due : (f : List ℕ) (k v : ℕ) (rw long short accepted sign bar : Bool) →
-    cond (eqb (code rw long short accepted sign bar) 0) (confirmed f k v) (aborted f (code rw long short accepted sign bar))
+    cond (eqb (code rw long short accepted sign bar) 0) (confirmed f (ownKey k) v) (aborted f (code rw long short accepted sign bar))
     ≡ answer f
     (cond (not rw) (abort readOnly)
     (cond long (abort tooLong)
@@ -84,7 +87,8 @@ module _ (d : Device) (o : Bool) (f : List ℕ) (n : aborting f ≡ false) where
   by-found (At r) false true a b q =
       let w = width r in
       let v = cutTo w (dataOf f) in
-      rw (n, a, b, q, length-is (eqb (byte f 0 % 2) 1) (byte f 0 / 4) w)
+      let own = laws .targets r (entries-laws .finds (indexOf f) (subOf f) .at r .0 q .0 .0) in
+      rw (n, a, b, q, own, length-is (eqb (byte f 0 % 2) 1) (byte f 0 / 4) w)
       (write-due f (key r) v (isRw r) (ltb w (lengthOf f w)) (ltb (lengthOf f w) w)
       (acceptsIn d r v) (isSignature (accepted r)) (barred d (key r) v))
   by-found x false false a b q = rw (n, a, b)

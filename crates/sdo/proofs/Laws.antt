@@ -19,6 +19,7 @@ use Rattle.entries.specs.Table.{key, width, whenBlank, source, isBlank, numberO
 use Rattle.entries.specs.Laws.{Listed}
 use Rattle.dictionary.specs.declared.read.Shown.the-variants.{Blank, Number}
 use Rattle.dictionary.specs.Reads.{shown}
+use Rattle.dictionary.specs.Writes.{ownKey}
 use Rattle.dictionary.specs.Valid.{ValidDevice}
 use Rattle.dictionary.specs.Laws.{Takes}
 use Rattle.dictionary.proofs.Accepted.{taken as accepted}
@@ -43,12 +44,15 @@ module _ (d : Device) (o : Bool) (f : List ℕ) where
   unaltered-by (abort c) h = refl
   unaltered-by (upload b t) h = refl
 
-  writes-by : (x : Due) (k v : ℕ) → answer f x .effect ≡ Write k v → x ≡ confirmation k v
-  writes-by none k v e = absurd (let z : _≡_ {A = ℕ} 0 1 = cc in omega arith)
-  writes-by (value w n) k v e = absurd (let z : _≡_ {A = ℕ} 0 1 = cc in omega arith)
-  writes-by (confirmation i j) k v e = cc
-  writes-by (abort c) k v e = absurd (let z : _≡_ {A = ℕ} 0 1 = cc in omega arith)
-  writes-by (upload b t) k v e = absurd (let z : _≡_ {A = ℕ} 0 1 = cc in omega arith)
+  writes-by : (x : Due) (n v : ℕ) → answer f x .effect ≡ Write n v → (k : ℕ) × ((x ≡ confirmation k v) × (n ≡ ownKey k))
+  writes-by none n v e = absurd (let z : _≡_ {A = ℕ} 0 1 = cc in omega arith)
+  writes-by (value w m) n v e = absurd (let z : _≡_ {A = ℕ} 0 1 = cc in omega arith)
+  writes-by (confirmation i j) n v e =
+      let same-name : ownKey i ≡ n = cc in
+      let same-value : j ≡ v = cc in
+      (i, (ap (confirmation i) same-value, sym same-name))
+  writes-by (abort c) n v e = absurd (let z : _≡_ {A = ℕ} 0 1 = cc in omega arith)
+  writes-by (upload b t) n v e = absurd (let z : _≡_ {A = ℕ} 0 1 = cc in omega arith)
 
   valid-by : (x : Found) (y : Due) → Told d o f x y → ValidDevice d → ValidDevice (carriedOut d (answer f y .effect))
   valid-by x none t h = h
@@ -273,7 +277,7 @@ module _ (d : Device) (o : Bool) (f : List ℕ) where
         announced = λ n e. rw e;
         unused-confirming = λ k v e. rw e;
         aborts = λ c e. rw e;
-        writes = λ k v. (writes-by d o f (due d o f) k v, λ e. rw e);
+        writes = λ n v. (writes-by d o f (due d o f) n v, λ e. rw (e .1 .0, e .1 .1));
         carries = λ k v e. rw e;
         unaltered = unaltered-by d o f (due d o f);
         valid = valid-by d o f asked (due d o f) (told d o f);

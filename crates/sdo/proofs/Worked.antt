@@ -3,13 +3,13 @@ use mathlib.Core.Path.{refl}
 use Rattle.names.specs.Segment.{segmentOf}
 use Rattle.entries.specs.Table.{table, lookup}
 use Rattle.dictionary.specs.Reads.{shown}
-use Rattle.dictionary.specs.Writes.{written}
+use Rattle.dictionary.specs.Writes.{put}
 use Rattle.sdo.specs.Service.{due}
 use Rattle.sdo.specs.Upload.{dueIn}
 use Rattle.sdo.specs.Worked.{Worked}
 
 pub worked : Worked
-unfolding table lookup segmentOf shown written due dueIn
+unfolding table lookup segmentOf shown put due dueIn
 worked =
     record {
       p1 = refl;

@@ -15,7 +15,7 @@ use Rattle.entries.specs.Table.{key, width, lookup}
 use Rattle.entries.specs.Laws.{Listed}
 use Rattle.dictionary.specs.declared.read.Shown.the-variants.{Number}
 use Rattle.dictionary.specs.Reads.{shown}
-use Rattle.dictionary.specs.Writes.{written}
+use Rattle.dictionary.specs.Writes.{ownKey, written}
 use Rattle.dictionary.specs.Valid.{ValidDevice}
 use Rattle.dictionary.specs.Laws.{Takes}
 use Rattle.sdo.specs.declared.reply.Effect.the-variants.{Write}
@@ -113,7 +113,7 @@ pub record Laws (d : Device) (o : Bool) (f : List ℕ) : Type 0 where
   -- abort 80h with the code, low byte first
   pub aborts : (c : ℕ) → due d o f ≡ abort c → served d o f .bytes ≡ 0x80 ∷ getD f 1 0 ∷ getD f 2 0 ∷ getD f 3 0 ∷ lowFirst 4 c
   -- what is confirmed is written, and nothing else is written;
-  pub writes : (k v : ℕ) → (served d o f .effect ≡ Write k v) ↔ (due d o f ≡ confirmation k v)
+  pub writes : (n v : ℕ) → (served d o f .effect ≡ Write n v) ↔ ((k : ℕ) × ((due d o f ≡ confirmation k v) × (n ≡ ownKey k)))
   pub carries : (k v : ℕ) → due d o f ≡ confirmation k v → carriedOut d (served d o f .effect) ≡ written d k v
   -- an aborted write alters no entry, nor does a read: only what is answered 60h alters the device
   pub unaltered : (getD (served d o f .bytes) 0 0 ≡ 0x60 → ⊥) → carriedOut d (served d o f .effect) ≡ d

@@ -10,7 +10,7 @@ use Rattle.names.specs.Transfer.{noTransfer, starting}
 use Rattle.entries.specs.declared.Device.{Device}
 use Rattle.dictionary.specs.declared.read.Shown.{Shown}
 use Rattle.dictionary.specs.declared.read.Shown.the-variants.{Blank, Number}
-use Rattle.dictionary.specs.Writes.{written}
+use Rattle.dictionary.specs.Writes.{put}
 use Rattle.sdo.specs.AbortCodes.{shownCode}
 use Rattle.sdo.specs.declared.reply.Effect.{Effect}
 use Rattle.sdo.specs.declared.reply.Effect.the-variants.{Nothing, Reply, Write}
@@ -27,7 +27,7 @@ replies (Write k v) = true
 abbrev pub carriedOut : Device → Effect → Device
 carriedOut d Nothing = d
 carriedOut d Reply = d
-carriedOut d (Write k v) = written d k v
+carriedOut d (Write k v) = put d k v
 
 abbrev pub framed : ℕ → List ℕ → ℕ → List ℕ
 framed first f content = first ∷ byte f 1 ∷ byte f 2 ∷ byte f 3 ∷ lowFirst 4 content

@@ -14,6 +14,7 @@ use Rattle.dictionary.specs.declared.read.Shown.{Shown}
 use Rattle.dictionary.specs.declared.read.Shown.the-variants.{Blank, Number}
 use Rattle.dictionary.specs.Reads.{shown}
 use Rattle.dictionary.specs.Accepted.{acceptsIn, isSignature, barred}
+use Rattle.dictionary.specs.Writes.{ownKey}
 use Rattle.dictionary.specs.AbortCodes.{invalidValue, wrongSignature, deviceState}
 use Rattle.sdo.specs.AbortCodes.{requestCode, foundCode, readOnly, tooLong, tooShort, shownCode}
 use Rattle.sdo.specs.declared.request.Request.the-variants.{UnknownCommand}
@@ -34,7 +35,7 @@ pub data Due : Type 0 where
 abbrev pub answer : List ℕ → Due → Served
 answer f none = noReply
 answer f (value width n) = answered f width n
-answer f (confirmation k v) = confirmed f k v
+answer f (confirmation k v) = confirmed f (ownKey k) v
 answer f (abort code) = aborted f code
 answer f (upload bytes t) = segmented bytes t
 

@@ -12,9 +12,9 @@ use Rattle.entries.specs.declared.Device.{Device}
 use Rattle.entries.specs.declared.Pdo.{Pdo}
 use Rattle.entries.specs.Settings.{factory}
 use Rattle.entries.specs.Keys.{errorCountKey, saveKey, loadKey, emergencyKey, inhibitKey, heartbeatKey}
-use Rattle.entries.specs.Keys.{tpdo1, tpdo2, identifierKeyOf, typeKeyOf, eventKeyOf, operatingKey, rangeKey, presetKey, stepKey, cycleKey}
+use Rattle.entries.specs.Keys.{tpdo1, tpdo2, identifierKeyOf, typeKeyOf, eventKeyOf, operatingKey, rangeKey, presetKey, stepKey}
 use Rattle.dictionary.specs.Accepted.{on}
-use Rattle.dictionary.specs.Writes.{communicationAfter, profileAfter, written}
+use Rattle.dictionary.specs.Writes.{communicationAfter, profileAfter, put}
 use Rattle.sdo.specs.declared.reply.Effect.the-variants.{Write}
 use Rattle.sdo.specs.declared.reply.Served.{Served}
 use Rattle.sdo.specs.Reply.{segmented}
@@ -68,7 +68,7 @@ module _ (h : Head) (v : Valid h) (live : isLive (h .core) ≡ true) (b : List �
   settled d = record { core = d; transfer = h .transfer; line = joinsIn (withdrawsIn (h .line) (goes c d)) (comes requestMoments d) }
 
   -- a write that alters neither the communication settings nor the timers
-  alters-else : (k x : ℕ) (d : Device) → written (c .device) k x ≡ d → d .settings .communication ≡ communication c
+  alters-else : (k x : ℕ) (d : Device) → put (c .device) k x ≡ d → d .settings .communication ≡ communication c
       → d .reading ≡ c .device .reading → timersWritten k (communication c) (communication c) (c .timers) ≡ c .timers
       → record { core = after d (c .timers); transfer = h .transfer; line = joinIn (h .line) line.sdoReply } ≡ act false h (serve (writing b k x))
   unfolding act settledTo
@@ -80,13 +80,13 @@ module _ (h : Head) (v : Valid h) (live : isLive (h .core) ≡ true) (b : List �
       ∙ ap (λ e. settled (after e (timersWritten k (communication c) (e .settings .communication) (c .timers)))) (sym w)
 
   -- no timer restarts
-  stands : (k : ℕ) → eqb k 0x1017_00 ≡ false → eqb k 0x1800_05 ≡ false → eqb k 0x6200_00 ≡ false → eqb k 0x1801_05 ≡ false
+  stands : (k : ℕ) → eqb k 0x1017_00 ≡ false → eqb k 0x1800_05 ≡ false → eqb k 0x1801_05 ≡ false
       → timersWritten k (communication c) (communication c) (c .timers) ≡ c .timers
-  stands k beat event1 cycle event2 =
-      rw (beat, event1, cycle, event2, not-switched (communication c .pdo1), not-switched (communication c .pdo2))
+  stands k beat event1 event2 =
+      rw (beat, event1, event2, not-switched (communication c .pdo1), not-switched (communication c .pdo2))
 
-  emptied : (x : ℕ) → written (c .device) errorCountKey x ≡ withErrors h 0 .core .device
-  unfolding written
+  emptied : (x : ℕ) → put (c .device) errorCountKey x ≡ withErrors h 0 .core .device
+  unfolding put
   emptied x = refl
 
   pub empties : (k x : ℕ) → eqb k errorCountKey ≡ true
@@ -94,14 +94,14 @@ module _ (h : Head) (v : Valid h) (live : isLive (h .core) ≡ true) (b : List �
       withLine (withReply (withErrors h (r .errors)) (r .reply)) (r .line) ≡ act false h (serve (writing b k x))
   empties k x e =
       rw (eqb-true k errorCountKey e)
-      (alters-else errorCountKey x (withErrors h 0 .core .device) (emptied x) refl refl (stands errorCountKey refl refl refl refl))
+      (alters-else errorCountKey x (withErrors h 0 .core .device) (emptied x) refl refl (stands errorCountKey refl refl refl))
 
-  saved : (x : ℕ) → written (c .device) saveKey x ≡ withSaved h (c .device .settings) .core .device
-  unfolding written
+  saved : (x : ℕ) → put (c .device) saveKey x ≡ withSaved h (c .device .settings) .core .device
+  unfolding put
   saved x = refl
 
-  loaded : (x : ℕ) → written (c .device) loadKey x ≡ withSaved h (factory (c .device .node)) .core .device
-  unfolding written
+  loaded : (x : ℕ) → put (c .device) loadKey x ≡ withSaved h (factory (c .device .node)) .core .device
+  unfolding put
   loaded x = refl
 
   pub saves : (k x : ℕ) → (eqb k saveKey || eqb k loadKey) ≡ true
@@ -111,34 +111,30 @@ module _ (h : Head) (v : Valid h) (live : isLive (h .core) ≡ true) (b : List �
       either (eqb k saveKey) (eqb k loadKey) e
       (λ s.
       rw (eqb-true k saveKey s)
-      (alters-else saveKey x (withSaved h (c .device .settings) .core .device) (saved x) refl refl (stands saveKey refl refl refl refl)))
+      (alters-else saveKey x (withSaved h (c .device .settings) .core .device) (saved x) refl refl (stands saveKey refl refl refl)))
       (λ l.
       let node = c .device .node in
       rw (eqb-true k loadKey l)
-      (alters-else loadKey x (withSaved h (factory node) .core .device) (loaded x) refl refl (stands loadKey refl refl refl refl)))
+      (alters-else loadKey x (withSaved h (factory node) .core .device) (loaded x) refl refl (stands loadKey refl refl refl)))
 
   module _ (k x : ℕ) (counts : eqb k errorCountKey ≡ false) (stores : (eqb k saveKey || eqb k loadKey) ≡ false) where
-    module _ (high : (leb operatingKey k && not (eqb k cycleKey)) ≡ true) where
+    module _ (high : leb operatingKey k ≡ true) where
       other : (y : ℕ) → y < operatingKey → eqb k y ≡ false
       other y low =
-          let m = leb-true operatingKey k (both (leb operatingKey k) (not (eqb k cycleKey)) high .0) in
+          let m = leb-true operatingKey k high in
           ne-eqb k y (λ q. omega arith)
-
-      no-cycle : eqb k cycleKey ≡ false
-      no-cycle = not-true (eqb k cycleKey) (both (leb operatingKey k) (not (eqb k cycleKey)) high .1)
 
       abbrev scaled : Device
       scaled = withProfile h (profileAfter (c .device .settings .profile) (c .device .reading .raw) k x) .core .device
 
-      scaled-so : written (c .device) k x ≡ scaled
-      unfolding written
+      scaled-so : put (c .device) k x ≡ scaled
+      unfolding put
       scaled-so =
           let n = neither (eqb k saveKey) (eqb k loadKey) stores in
           rw (
             counts,
             n .0,
             n .1,
-            no-cycle,
             other emergencyKey (omega arith),
             other inhibitKey (omega arith),
             other heartbeatKey (omega arith),
@@ -154,12 +150,12 @@ module _ (h : Head) (v : Valid h) (live : isLive (h .core) ≡ true) (b : List �
           let r = scaledBy (c .device .settings .profile) (c .device .reading .raw) (h .line) b k x in
           withLine (withReply (withProfile h (r .profile)) (r .reply)) (r .line) ≡ act false h (serve (writing b k x))
       scales =
-          let timers = stands k (other 0x1017_00 (omega arith)) (other 0x1800_05 (omega arith)) no-cycle (other 0x1801_05 (omega arith)) in
+          let timers = stands k (other 0x1017_00 (omega arith)) (other 0x1800_05 (omega arith)) (other 0x1801_05 (omega arith)) in
           alters-else k x scaled scaled-so refl refl timers
 
-    module _ (low : (leb operatingKey k && not (eqb k cycleKey)) ≡ false) where
-      no-profile : (y : ℕ) → (leb operatingKey y && not (eqb y cycleKey)) ≡ true → eqb k y ≡ false
-      no-profile y e = ne-eqb k y (λ q. true-false (sym e ∙ ap (λ z. leb operatingKey z && not (eqb z cycleKey)) (sym q) ∙ low))
+    module _ (low : leb operatingKey k ≡ false) where
+      no-profile : (y : ℕ) → leb operatingKey y ≡ true → eqb k y ≡ false
+      no-profile y e = ne-eqb k y (λ q. true-false (sym e ∙ ap (leb operatingKey) (sym q) ∙ low))
 
       abbrev settings : Communication
       settings = communicationAfter (communication c) k x
@@ -167,8 +163,8 @@ module _ (h : Head) (v : Valid h) (live : isLive (h .core) ≡ true) (b : List �
       abbrev configured : Device
       configured = withCommunication h settings .core .device
 
-      configured-so : written (c .device) k x ≡ configured
-      unfolding written
+      configured-so : put (c .device) k x ≡ configured
+      unfolding put
       configured-so =
           let n = neither (eqb k saveKey) (eqb k loadKey) stores in
           rw (

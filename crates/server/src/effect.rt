@@ -7,7 +7,6 @@ ghost use Rattle.server.specs.Effects.{repliedBy, emptiedBy, keptBy, sav
 use can::Bytes;
 use entries::Communication;
 use entries::Settings;
-use entries::table::CYCLE;
 use entries::table::HEARTBEAT;
 use entries::table::SAVE;
 use entries::table::TPDO1_EVENT;
@@ -131,13 +130,11 @@ fn timers_written(key: u32, before: Communication, after: Communication, timers:
     let before2 = before.pdo2;
     let after2 = after.pdo2;
     let clock2 = timers.pdo2;
-    let event1 = (key == TPDO1_EVENT) | (key == CYCLE);
-    let event2 = key == TPDO2_EVENT;
     Timers {
         inhibit: timers.inhibit,
         heartbeat: counting::restarted(key == HEARTBEAT, timers.heartbeat),
-        pdo1: tpdo::written(event1, before1, after1, clock1),
-        pdo2: tpdo::written(event2, before2, after2, clock2),
+        pdo1: tpdo::written(key == TPDO1_EVENT, before1, after1, clock1),
+        pdo2: tpdo::written(key == TPDO2_EVENT, before2, after2, clock2),
     }
 }
 

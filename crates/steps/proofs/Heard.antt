@@ -13,8 +13,9 @@ use Rattle.names.specs.declared.Transfer.{Transfer}
 use Rattle.names.specs.Transfer.{noTransfer}
 use Rattle.entries.specs.Table.{lookup}
 use Rattle.entries.specs.declared.table.Found.{Found}
-use Rattle.dictionary.specs.Writes.{Fits}
+use Rattle.dictionary.specs.Writes.{ownKey, Fits}
 use Rattle.dictionary.proofs.Laws.{laws}
+use Rattle.dictionary.proofs.Own.{own-preset}
 use Rattle.sdo.specs.declared.reply.Effect.{Effect}
 use Rattle.sdo.specs.declared.reply.Effect.the-variants.{Nothing, Reply, Write}
 use Rattle.sdo.specs.Request.{indexOf, subOf}
@@ -75,7 +76,9 @@ module _ (h : Head) where
     serves l x (value w n) k = replies _ _ l
     serves l x (abort code) k = replies _ _ l
     serves l x (upload b u) k = replies _ _ l
-    serves l x (confirmation i y) k = writes _ i y l (rw (k .key) (laws .written-fits (c .device) (k .place) y (k .takes)))
+    serves l x (confirmation i y) k =
+        let fits = laws .written-fits (c .device) (k .its-row) y (k .takes) in
+        writes _ (ownKey i) y l (λ e. fits (sym (k .key) ∙ own-preset i e))
 
     asks : Means c t 0 (requestedBy (c .nmt) (c .device) t (h .line) f) (requested h f)
     asks =

@@ -12,7 +12,7 @@ use Rattle.can.specs.declared.Received.{Received}
 use Rattle.names.specs.declared.Transfer.{Transfer}
 use Rattle.names.specs.Transfer.{noTransfer}
 use Rattle.position.specs.Profile.{ValidProfile}
-use Rattle.entries.specs.Keys.{errorCountKey, saveKey, loadKey, operatingKey, presetKey, cycleKey}
+use Rattle.entries.specs.Keys.{errorCountKey, saveKey, loadKey, operatingKey, presetKey}
 use Rattle.dictionary.specs.Writes.{Fits}
 use Rattle.sdo.specs.declared.reply.Effect.the-variants.{Write}
 use Rattle.parts.specs.declared.Core.{Core}
@@ -74,7 +74,7 @@ moved (replies b u l) = inr refl
 moved (writes b k x l f) =
     inr (by Moves (eqb k errorCountKey) (λ _. refl) (λ _.
     by Moves (eqb k saveKey || eqb k loadKey) (λ _. refl) (λ _.
-    by Moves (leb operatingKey k && not (eqb k cycleKey)) (λ _. refl) (λ _. refl))))
+    by Moves (leb operatingKey k) (λ _. refl) (λ _. refl))))
 
 unmoved : {c : Core} {t : Transfer} {n : ℕ} {w : Heard} {a : Act} → Means c t n w a → moves (w .way) ≡ false → w .transfer ≡ t
 unmoved m n = ⊎-elim (λ e. e) (λ y. true-false (sym y ∙ n)) (moved m)
@@ -114,7 +114,7 @@ module _ (h : Head) (v : Valid h) where
   obeys-in (writes b k x l f) u =
       by (Written b k x) (eqb k errorCountKey) (λ e. server.empties h v l b k x e) (λ e.
       by (Written b k x) (eqb k saveKey || eqb k loadKey) (λ s. server.saves h v l b k x s) (λ s.
-      by (Written b k x) (leb operatingKey k && not (eqb k cycleKey))
+      by (Written b k x) (leb operatingKey k)
       (λ p. server.scales h v l b k x e s p)
       (λ p. server.configures h v l b k x e s p)))
 

@@ -11,7 +11,7 @@ use Rattle.can.specs.Frame.{refusalOf}
 use Rattle.names.specs.declared.Transfer.{Transfer}
 use Rattle.names.specs.Transfer.{noTransfer}
 use Rattle.entries.specs.declared.Device.{Device}
-use Rattle.entries.specs.Keys.{errorCountKey, saveKey, loadKey, operatingKey, cycleKey}
+use Rattle.entries.specs.Keys.{errorCountKey, saveKey, loadKey, operatingKey}
 use Rattle.sdo.specs.declared.reply.Effect.{Effect}
 use Rattle.sdo.specs.declared.reply.Effect.the-variants.{Nothing, Reply, Write}
 use Rattle.sdo.specs.declared.reply.Served.{Served}
@@ -48,7 +48,7 @@ abbrev pub writeWay : ℕ → ℕ
 writeWay k =
     cond (eqb k errorCountKey) 8
     (cond (eqb k saveKey || eqb k loadKey) 7
-    (cond (leb operatingKey k && not (eqb k cycleKey)) 4 3))
+    (cond (leb operatingKey k) 4 3))
 
 abbrev pub replyingBy : ℕ → Transfer → List ℕ → ℕ → ℕ → Heard
 replyingBy way t reply k v =

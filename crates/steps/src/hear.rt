@@ -5,7 +5,6 @@ ghost use Rattle.steps.specs.Hear.{passingBy, syncWay, keptBy, orderWay,
 use can::Bytes;
 use can::Received;
 use entries::Device;
-use entries::table::CYCLE;
 use entries::table::ERROR_COUNT;
 use entries::table::LOAD;
 use entries::table::OPERATING;
@@ -182,7 +181,7 @@ fn write_way(key: u32) -> u8
     if (key == SAVE) | (key == LOAD) {
         return SAVES;
     }
-    if (OPERATING <= key) & (key != CYCLE) {
+    if OPERATING <= key {
         return SCALES;
     }
     CONFIGURES

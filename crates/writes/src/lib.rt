@@ -2,12 +2,11 @@
 ghost use mathlib.Core.Path.{_≡_};
 ghost use mathlib.Core.Bool.{cond};
 ghost use Rattle.position.specs.Profile.{ValidProfile};
-ghost use Rattle.dictionary.specs.Writes.{pdoAfter, communicationAfter, rangeFor, rescaledTo, profileAfter, savedAfter, Fits, written};
+ghost use Rattle.dictionary.specs.Writes.{pdoAfter, communicationAfter, rangeFor, rescaledTo, profileAfter, savedAfter, Fits, put};
 use entries::Communication;
 use entries::Device;
 use entries::Pdo;
 use entries::Settings;
-use entries::table::CYCLE;
 use entries::table::EMERGENCY;
 use entries::table::ERROR_COUNT;
 use entries::table::HEARTBEAT;
@@ -19,7 +18,6 @@ use entries::table::RANGE;
 use entries::table::SAVE;
 use entries::table::STEP;
 use entries::table::TPDO1;
-use entries::table::TPDO1_EVENT;
 use entries::table::TPDO2;
 use entries::table::key_of;
 use position::FULL_RANGE;
@@ -29,7 +27,7 @@ use position::SCALED_RANGE;
 // The device after a write to which `acceptance::abort_code` gives 0.
 pub fn write(device: Device, key: u32, value: u32) -> Device
     requires { ⌜ (ValidProfile (device .settings .profile)) × (Fits (device .settings .profile) key value) ⌝ }
-    ensures { λ r. ⌜ r ≡ written device key value ⌝ }
+    ensures { λ r. ⌜ r ≡ put device key value ⌝ }
 {
     let identity = device.identity;
     let reading = device.reading;
@@ -57,7 +55,7 @@ pub fn communication_after(old: Communication, key: u32, value: u32) -> Communic
         emergency: choose(key == EMERGENCY, value, old.emergency),
         inhibit: choose(key == INHIBIT, value, old.inhibit),
         heartbeat: choose(key == HEARTBEAT, value, old.heartbeat),
-        pdo1: pdo_after(TPDO1, pdo1, choose(key == CYCLE, TPDO1_EVENT, key), value),
+        pdo1: pdo_after(TPDO1, pdo1, key, value),
         pdo2: pdo_after(TPDO2, pdo2, key, value),
     }
 }

@@ -12,9 +12,6 @@ choose-requires-2 c κs = search needs
 choose-requires-3 : tie.Need-choose-requires-3
 choose-requires-3 c κs = search needs
 
-choose-requires-4 : tie.Need-choose-requires-4
-choose-requires-4 c κs = search needs
-
 pdo-after-requires : tie.Need-pdo-after-requires
 pdo-after-requires c κs = search needs
 
@@ -26,10 +23,9 @@ returns c =
     rw (
       c .pdo-after2 .ensures,
       c .before .pdo-after .ensures,
-      c .before .before .choose4 .ensures,
-      c .before .before .before .choose3 .ensures,
-      c .before .before .before .before .choose2 .ensures,
-      c .before .before .before .before .before .choose .ensures,
+      c .before .before .choose3 .ensures,
+      c .before .before .before .choose2 .ensures,
+      c .before .before .before .before .choose .ensures,
     )
 
 pub communication-after-spec : {M : Type 1} → statement M
@@ -39,7 +35,6 @@ communication-after-spec =
     choose-requires
     choose-requires-2
     choose-requires-3
-    choose-requires-4
     pdo-after-requires
     pdo-after-requires-2
     returns)

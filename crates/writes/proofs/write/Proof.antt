@@ -1,5 +1,5 @@
 -- `writes::write` meets its contract, field by field.
-use Rattle.dictionary.specs.Writes.{written}
+use Rattle.dictionary.specs.Writes.{put}
 use borrow.Author.Needs.{needs}
 use Rattle.writes.proofs.write.Statement.{statement}
 use Rattle.writes.proofs.write.Tie as tie
@@ -17,7 +17,7 @@ saved-after-requires : tie.Need-saved-after-requires
 saved-after-requires c κs = search needs
 
 returns : tie.Need-returns
-unfolding written
+unfolding put
 returns c =
     rw (
       c .saved-after .ensures,

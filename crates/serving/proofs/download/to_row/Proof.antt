@@ -22,16 +22,20 @@ returns c =
       c .abort .ensures,
     )
 
+target-requires : tie.Need-target-requires
+target-requires c κs = search needs
+
 confirm-requires : tie.Need-confirm-requires
 confirm-requires c κs = search needs
 
 returns-2 : tie.Need-returns-2
 returns-2 c =
     rw (
-      ← (c .before .before .before .cut .ensures),
-      ← (c .before .before .code .ensures),
-      c .before .if1 .left,
+      ← (c .before .before .before .before .cut .ensures),
+      ← (c .before .before .before .code .ensures),
+      c .before .before .if1 .left,
       c .confirm .ensures,
+      c .before .target .ensures,
     )
 
 pub to-row-spec : {M : Type 1} → statement M
@@ -42,5 +46,6 @@ to-row-spec =
     code-requires
     abort-requires
     returns
+    target-requires
     confirm-requires
     returns-2)
