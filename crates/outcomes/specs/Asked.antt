@@ -4,7 +4,6 @@ use Prim.Native.Nat.{_*_, _<_, _≤_}
 use lib.ListN.{length}
 use denote.Ref.{now}
 use Rattle.position.specs.Profile.{ValidProfile}
-use Rattle.entries.specs.Table.{table}
 use Rattle.dictionary.specs.Writes.{Fits}
 use Rattle.waiting.specs.Line.{places}
 use Rattle.waiting.specs.Places.{waiting as waitingIn, Holds}
@@ -75,13 +74,12 @@ pub record Asked : Type 0 where
   pub entries·Settings·factory : AsksNothing entries.Settings.factory.ended entries.Settings.factory.Reads.Asked
   pub entries·name-of : AsksNothing entries.name_of.ended entries.name_of.Reads.Asked
   pub entries·table·find : AsksNothing entries.table.find.ended entries.table.find.Reads.Asked
-  pub entries·table·row-at : AsksOnly entries.table.row_at.ended (λ κs a. a .0 < length table) entries.table.row_at.Reads.Asked
-  pub entries·table·key : AsksNothing entries.table.key.ended entries.table.key.Reads.Asked
+  pub entries·table·target : AsksNothing entries.table.target.ended entries.table.target.Reads.Asked
   pub entries·table·key-of : AsksNothing entries.table.key_of.ended entries.table.key_of.Reads.Asked
   pub acceptance·abort-code : AsksNothing acceptance.abort_code.ended acceptance.abort_code.Reads.Asked
   pub acceptance·value-abort-code : AsksNothing acceptance.value_abort_code.ended acceptance.value_abort_code.Reads.Asked
   pub acceptance·is-on : AsksNothing acceptance.is_on.ended acceptance.is_on.Reads.Asked
-  pub values·read : AsksOnly values.read.ended (λ κs a. (a .1 .1 .0 < length table) × (ValidProfile (a .0 .settings .profile))) values.read.Reads.Asked
+  pub values·read : AsksOnly values.read.ended (λ κs a. ValidProfile (a .0 .settings .profile)) values.read.Reads.Asked
   pub writes·write : AsksOnly writes.write.ended (λ κs a. (ValidProfile (a .0 .settings .profile)) × (Fits (a .0 .settings .profile) (a .1 .0) (a .1 .1 .0))) writes.write.Reads.Asked
   pub writes·communication-after : AsksNothing writes.communication_after.ended writes.communication_after.Reads.Asked
   pub writes·profile-after : AsksOnly writes.profile_after.ended (λ κs a. (ValidProfile (a .0)) × (Fits (a .0) (a .1 .1 .0) (a .1 .1 .1 .0))) writes.profile_after.Reads.Asked

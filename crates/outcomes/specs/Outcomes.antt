@@ -71,8 +71,7 @@ pub record Outcomes : Type 0 where
   pub entries·Settings·factory : OneOutcome entries.Settings.factory.ended entries.Settings.factory.Reads.Learnt
   pub entries·name-of : OneOutcome entries.name_of.ended entries.name_of.Reads.Learnt
   pub entries·table·find : OneOutcome entries.table.find.ended entries.table.find.Reads.Learnt
-  pub entries·table·row-at : OneOutcome entries.table.row_at.ended entries.table.row_at.Reads.Learnt
-  pub entries·table·key : OneOutcome entries.table.key.ended entries.table.key.Reads.Learnt
+  pub entries·table·target : OneOutcome entries.table.target.ended entries.table.target.Reads.Learnt
   pub entries·table·key-of : OneOutcome entries.table.key_of.ended entries.table.key_of.Reads.Learnt
   pub acceptance·abort-code : OneOutcome acceptance.abort_code.ended acceptance.abort_code.Reads.Learnt
   pub acceptance·value-abort-code : OneOutcome acceptance.value_abort_code.ended acceptance.value_abort_code.Reads.Learnt
