@@ -11,7 +11,7 @@ CODE, SPECIFICATION = ENTRIES / "src" / "table.rt", ENTRIES / "specs" / "Table.a
 COLUMN = r"[A-Z][A-Za-z]*(?:\([0-9A-Za-z_, ]+\))?"
 CODE_ROW = re.compile(rf" +0x([0-9A-F]{{4}}_[0-9A-F]{{2}}) => Row\(k, (U8|U16|U32|S32|NAME), (RO|RW), ({COLUMN}), ({COLUMN}), ({COLUMN})\),")
 PART = re.compile(r"fn from_[0-9A-F]{4}\(k: u32\) -> Row")
-CONSTANT = re.compile(r"pub const ([A-Z0-9_]+): u32 = (0x[0-9A-F]{4}_[0-9A-F]{2});")
+CONSTANT = re.compile(r"(?:pub )?const ([A-Z0-9_]+): u32 = (0x[0-9A-F]{4}_[0-9A-F]{2});")
 SPEC_COLUMN = r"[A-Z][A-Za-z]*|\([A-Z][A-Za-z]*(?: [0-9A-Fx_]+)+\)"
 SPEC_ROW = re.compile(rf" +row 0x([0-9A-F]{{4}}) ([0-9]+) (U8|U16|U32|S32|name) (ro|rw) ({SPEC_COLUMN}) ({SPEC_COLUMN}) ({SPEC_COLUMN}) ∷")
 NUMBER = re.compile(r"0x[0-9A-F]+(?:_[0-9A-F]+)*|0|[1-9][0-9]*(?:_[0-9]{3})*")

@@ -103,15 +103,15 @@ pub const INHIBIT: u32 = 0x1015_00;
 
 pub const HEARTBEAT: u32 = 0x1017_00;
 
-pub const TPDO1_ID: u32 = 0x1800_01;
+const TPDO1_ID: u32 = 0x1800_01;
 
-pub const TPDO1_TYPE: u32 = 0x1800_02;
+const TPDO1_TYPE: u32 = 0x1800_02;
 
 pub const TPDO1_EVENT: u32 = 0x1800_05;
 
-pub const TPDO2_ID: u32 = 0x1801_01;
+const TPDO2_ID: u32 = 0x1801_01;
 
-pub const TPDO2_TYPE: u32 = 0x1801_02;
+const TPDO2_TYPE: u32 = 0x1801_02;
 
 pub const TPDO2_EVENT: u32 = 0x1801_05;
 

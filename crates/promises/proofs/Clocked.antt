@@ -13,7 +13,7 @@ use Rattle.dictionary.specs.Writes.{ownKey, communicationAfter, put}
 use Rattle.dictionary.proofs.Own.{own-other}
 use Rattle.entries.specs.Keys.{cycleKey}
 use Rattle.sdo.specs.declared.reply.Effect.{Effect}
-use Rattle.sdo.specs.declared.reply.Effect.the-variants.{Nothing, Reply, Write}
+use Rattle.sdo.specs.declared.reply.Effect.the-variants.{Write}
 use Rattle.sdo.specs.declared.reply.Served.{Served}
 use Rattle.sdo.specs.Reply.{carriedOut}
 use Rattle.sdo.specs.Service.{Due, none, value, confirmation, abort, upload, answer}

@@ -4,11 +4,10 @@ use lib.Dec.{eqb}
 use mathlib.Core.Path.{_≡_, refl, ap, _∙_}
 use mathlib.Core.List.{List}
 use mathlib.Core.Bool.{Bool, true, false, not, _&&_, _||_, Bool·beq, cond, Bool·not-not, and-true}
-use borrow.Author.Tests.{eqb-true}
 use Rattle.cases.specs.Tests.{within}
 use Rattle.cases.proofs.Cases.{both, test}
 use Rattle.entries.specs.declared.Communication.{Communication}
-use Rattle.entries.specs.Keys.{identifierKeyOf, tpdo1, cycleKey, emergencyKey, heartbeatKey}
+use Rattle.entries.specs.Keys.{emergencyKey, heartbeatKey}
 use Rattle.dictionary.specs.Accepted.{on, pdoBarred, barred}
 use Rattle.dictionary.specs.Writes.{ownKey, communicationAfter, put}
 use Rattle.dictionary.proofs.Own.{own-other}

@@ -11,7 +11,7 @@ use Rattle.entries.specs.declared.Device.{Device}
 use Rattle.entries.specs.declared.Pdo.{Pdo}
 use Rattle.entries.specs.declared.Communication.{Communication}
 use Rattle.entries.specs.declared.table.Found.{Found}
-use Rattle.entries.specs.Table.{missing, rowAt}
+use Rattle.entries.specs.Table.{missing}
 use Rattle.entries.specs.Keys.{cycleKey, eventKeyOf, tpdo1, rangeKey, presetKey, stepKey, heartbeatKey}
 use Rattle.dictionary.specs.Accepted.{pdoBarred, barred}
 use Rattle.dictionary.specs.Writes.{ownKey, put}

@@ -17,7 +17,6 @@ use Rattle.waiting.proofs.After.{has-append, has-withdraws}
 use Rattle.entries.specs.Keys.{emergencyKey}
 use Rattle.dictionary.specs.Accepted.{on, barred}
 use Rattle.dictionary.specs.Writes.{ownKey, put}
-use Rattle.sdo.specs.declared.reply.Effect.the-variants.{Reply}
 use Rattle.sdo.specs.declared.reply.Served.{Served}
 use Rattle.sdo.specs.Reply.{confirmed, segmented}
 use Rattle.parts.specs.declared.Nmt.{Nmt}

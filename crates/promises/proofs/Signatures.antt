@@ -20,7 +20,6 @@ use Rattle.entries.specs.Laws.{Listed}
 use Rattle.entries.proofs.Listed.{agree}
 use Rattle.entries.proofs.Laws.{laws as entries-laws}
 use Rattle.dictionary.specs.Accepted.{abortCode}
-use Rattle.dictionary.specs.Laws.{Takes}
 use Rattle.sdo.specs.Service.{Due, confirmation}
 use Rattle.sdo.specs.Upload.{dueIn}
 use Rattle.sdo.specs.Worked.{bytes}

@@ -1,6 +1,6 @@
 -- Laws for every request to every device: when each reply is due, what a value and a confirmation tell, the bytes of the
 -- reply, and what a request leaves unchanged. Bytes are given by place and number, as in 01, chapter "Service requests".
-use Prim.Native.Nat.{ℕ, _-_, _/_, _%_, _<_, _≤_}
+use Prim.Native.Nat.{ℕ, _-_, _/_, _%_, _≤_}
 use lib.ListN.{getD, drop, replicate}
 use mathlib.Core.Path.{_≡_}
 use mathlib.Core.Logic.{_↔_, _⊎_}

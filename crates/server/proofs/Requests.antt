@@ -5,7 +5,7 @@ use lib.Dec.{eqb, leb}
 use mathlib.Core.Path.{_≡_, refl, sym, ap, ap₂, subst, _∙_}
 use mathlib.Core.Bool.{Bool, true, false, not, _&&_, _||_, Bool·beq, and-false, and-not-self}
 use mathlib.Core.List.{List, [], _∷_}
-use borrow.Author.Tests.{ne-eqb, eqb-true, leb-true, not-true}
+use borrow.Author.Tests.{ne-eqb, eqb-true, leb-true}
 use Rattle.cases.proofs.Cases.{by, both, neither, either, test, true-false}
 use Rattle.entries.specs.declared.Communication.{Communication}
 use Rattle.entries.specs.declared.Device.{Device}

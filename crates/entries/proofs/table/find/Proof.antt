@@ -12,10 +12,6 @@ use Rattle.entries.proofs.Found.{finds}
 use Rattle.entries.proofs.Search.{there, not-there, no-first}
 use Rattle.entries.proofs.table.find.Statement.{statement}
 use Rattle.entries.proofs.table.find.Tie as tie
-use Rattle.entries.proofs.table.find.Reads as reads
-use Rattle.entries.proofs.table.find.Lts as lts
-use Rattle.entries.proofs.table.key_of.Reads as key-of-reads
-use Rattle.entries.proofs.table.row_of.Reads as row-of-reads
 
 -- The sub-index asked for, or after it 0.
 abbrev Inv-loop : tie.InvT-loop

@@ -11,7 +11,6 @@ use Rattle.entries.specs.Table.{table, rowOfKey}
 use Rattle.entries.proofs.Search.{absent}
 use Rattle.entries.proofs.table.from_1011.Statement.{statement}
 use Rattle.entries.proofs.table.from_1011.Tie as tie
-use Rattle.entries.proofs.table.from_1011.Lts as lts
 
 abbrev keys : List ℕ
 keys =
