@@ -12,7 +12,7 @@ BREAKS = [
     ("code", AT_1801, "", "-| 1801-5 | U16 rw | 0; all |"),
     ("code", AT_1801, "", "the code has 1A00-0 where the specification has 1801-5"),
     ("code", AT_1801, AT_1801.replace("_05", "_06"), "1801-6: no row has the key of its setting, 1801-5"),
-    ("code", "fn from_1800(k: u32) -> Row", "fn later(k: u32) -> Row", "6200-0: no row has the key of its setting, 1800-5"),
+    ("code", "fn from_1000(k: u32) -> Row", "fn earlier(k: u32) -> Row", "the code has 1800-0 where the specification has 1000-0"),
     ("code", "        0x6004_00 =>", "        // 0x6004_00 =>", "not a line of the list"),
     ("code", "        0x6004_00 =>", "        0x6004_00 | 0x6006_00 =>", "not a line of the list"),
     # each column

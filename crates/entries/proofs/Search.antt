@@ -92,7 +92,7 @@ not-listed k a (n ∷ ks) b e =
     (λ f. ne-eqb a k (λ g. b .1 (sym g ∙ eqb-true a n f)))
     (λ f. not-listed k a ks (b .0) f)
 
--- No row has a key that is none of those of its part, ks, if the other rows' keys are not in that part.
+-- No row has a key that is none of those of its half, ks, if the other rows' keys are not in that half.
 absent-in : (l : List Row) (ks : List ℕ) (t : ℕ → Bool) (k : ℕ) → ((a : ℕ) → t a ≡ true → eqb a k ≡ false) → all-listed ks t l ≡ true
     → Beside k ks → noRow ≡ withKey l k
 absent-in [] ks t k o e b = refl

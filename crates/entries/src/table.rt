@@ -123,12 +123,8 @@ pub const PRESET: u32 = 0x6003_00;
 
 pub const STEP: u32 = 0x6005_01;
 
-// The first key of each part of the list but the first.
-const AT_1011: u32 = 0x1011_00;
-
+// The first key of the second half of the list.
 const AT_1800: u32 = 0x1800_00;
-
-const AT_6000: u32 = 0x6000_00;
 
 // A type is its number of bytes, a name's the most that it can have.
 const U8: u8 = 1;
@@ -168,26 +164,20 @@ pub fn find(index: u16, sub: u8) -> Found
     }
 }
 
-// Halves the list twice by its order, and looks for the key in the part that may have it.
+// Halves the list by its order, and looks for the key in the half that may have it.
 fn row_of(key: u32) -> Row
     ensures { λ r. ⌜ r ≡ rowOfKey key ⌝ }
 {
     if key < AT_1800 {
-        if key < AT_1011 {
-            return from_1000(key);
-        }
-        return from_1011(key);
+        return from_1000(key);
     }
-    if key < AT_6000 {
-        return from_1800(key);
-    }
-    from_6000(key)
+    from_1800(key)
 }
 
 // The list, one line for each entry, in index order: key, type, access, accepted values, when it is blank,
-// where its number comes from. Its first part is 1000h to 1010h.
+// where its number comes from. Here 1000h to 1018h.
 fn from_1000(k: u32) -> Row
-    requires { ⌜ k < 0x1011_00 ⌝ }
+    requires { ⌜ k < 0x1800_00 ⌝ }
     ensures { λ r. ⌜ r ≡ rowOfKey k ⌝ }
 {
     match k {
@@ -204,16 +194,6 @@ fn from_1000(k: u32) -> Row
         0x100A_00 => Row(k, NAME, RO, Nothing, Never, Name(3)),
         0x1010_00 => Row(k, U8, RO, Nothing, Never, Fixed(1)),
         0x1010_01 => Row(k, U32, RW, Signature(0x6576_6173), Never, Save),
-        _ => NO_ROW,
-    }
-}
-
-// The list from 1011h to 1018h.
-fn from_1011(k: u32) -> Row
-    requires { ⌜ (0x1011_00 ≤ k) × (k < 0x1800_00) ⌝ }
-    ensures { λ r. ⌜ r ≡ rowOfKey k ⌝ }
-{
-    match k {
         0x1011_00 => Row(k, U8, RO, Nothing, Never, Fixed(1)),
         0x1011_01 => Row(k, U32, RW, Signature(0x6461_6F6C), Never, Load),
         0x1014_00 => Row(k, U32, RW, EmergencyIdentifier, Never, Setting(EMERGENCY)),
@@ -228,9 +208,9 @@ fn from_1011(k: u32) -> Row
     }
 }
 
-// The list from 1800h to 1A01h.
+// The list from 1800h on.
 fn from_1800(k: u32) -> Row
-    requires { ⌜ (0x1800_00 ≤ k) × (k < 0x6000_00) ⌝ }
+    requires { ⌜ 0x1800_00 ≤ k ⌝ }
     ensures { λ r. ⌜ r ≡ rowOfKey k ⌝ }
 {
     match k {
@@ -246,16 +226,6 @@ fn from_1800(k: u32) -> Row
         0x1A00_01 => Row(k, U32, RO, Nothing, Never, Fixed(0x6004_0020)),
         0x1A01_00 => Row(k, U8, RO, Nothing, Never, Fixed(1)),
         0x1A01_01 => Row(k, U32, RO, Nothing, Never, Fixed(0x6004_0020)),
-        _ => NO_ROW,
-    }
-}
-
-// The list from 6000h on.
-fn from_6000(k: u32) -> Row
-    requires { ⌜ 0x6000_00 ≤ k ⌝ }
-    ensures { λ r. ⌜ r ≡ rowOfKey k ⌝ }
-{
-    match k {
         0x6000_00 => Row(k, U16, RW, OperatingParameters, Never, Setting(OPERATING)),
         0x6002_00 => Row(k, U32, RW, Between(1_000, 1_000_000), Never, Setting(RANGE)),
         0x6003_00 => Row(k, U32, RW, BelowRange, Never, Setting(PRESET)),

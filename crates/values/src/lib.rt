@@ -3,15 +3,16 @@ ghost use mathlib.Core.Path.{_≡_};
 ghost use mathlib.Core.Bool.{not, cond};
 ghost use Prim.Native.Nat.{_+_, _<_};
 ghost use Rattle.position.specs.Profile.{ValidProfile};
+ghost use Rattle.entries.specs.Identity.{nameOf};
 ghost use Rattle.entries.specs.Table.{isBlank, settingsOf, beside, numberOf};
 ghost use Rattle.dictionary.specs.Reads.{shown};
 use dictionary::read::Shown;
 use entries::Device;
+use entries::Identity;
 use entries::Settings;
 use entries::table::Row;
 use entries::table::Source;
 use entries::table::WhenBlank;
-use names::Name;
 
 const OPERATIONAL: u32 = 0x8000;
 
@@ -52,7 +53,7 @@ fn number(source: Source, device: Device, operational: bool) -> u32
         Source::ErrorCount => device.errors,
         Source::Save => 1,
         Source::Load => 1,
-        Source::Name(number) => size(entries::name_of(identity, number)),
+        Source::Name(number) => size(identity, number),
         Source::Vendor => identity.vendor,
         Source::Product => identity.product,
         Source::Revision => identity.revision,
@@ -87,10 +88,17 @@ fn setting(settings: Settings, key: u32) -> u32
     }
 }
 
-fn size(name: Name) -> u32
-    ensures { λ r. ⌜ r ≡ name .length ⌝ }
+// Of the name of this number. It is asked here and not of the name, because a name would be copied.
+fn size(identity: Identity, number: u8) -> u32
+    ensures { λ r. ⌜ r ≡ nameOf identity number .length ⌝ }
 {
-    name.length as u32
+    if number == 1 {
+        return identity.name.length as u32;
+    }
+    if number == 2 {
+        return identity.hardware.length as u32;
+    }
+    identity.software.length as u32
 }
 
 fn register(good: bool) -> u32

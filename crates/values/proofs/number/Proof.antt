@@ -31,9 +31,6 @@ enum-told-4 c = search needs
 enum-known-source-3 : tie.Need-enum-known-source-3
 enum-known-source-3 c = search needs
 
-name-of-requires : tie.Need-name-of-requires
-name-of-requires c κs = search needs
-
 size-requires : tie.Need-size-requires
 size-requires c κs = search needs
 
@@ -86,7 +83,7 @@ returns-6 : tie.Need-returns-6
 returns-6 c = rw (c .enum-told4 .given .1)
 
 returns-7 : tie.Need-returns-7
-returns-7 c = rw (c .before .before .before .source3 .given .1, c .size .ensures, c .before .name-of .ensures)
+returns-7 c = rw (c .before .before .source3 .given .1, c .size .ensures)
 
 returns-8 : tie.Need-returns-8
 returns-8 c = rw (c .enum-told5 .given .1)
@@ -122,7 +119,6 @@ number-spec =
     enum-told-3
     enum-told-4
     enum-known-source-3
-    name-of-requires
     size-requires
     enum-told-5
     enum-told-6

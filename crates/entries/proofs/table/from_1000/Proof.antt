@@ -1,4 +1,4 @@
--- `table::from_1000` meets its contract: a line of the list for each key, and no row for any other of its part.
+-- `table::from_1000` meets its contract: a line of the list for each key, and no row for any other of its half.
 use Prim.Native.Nat.{ℕ, _<_}
 use native.Mathlib.Omega.{arith}
 use mathlib.Core.Path.{_≡_, refl}
@@ -13,17 +13,18 @@ use Rattle.entries.proofs.table.from_1000.Tie as tie
 
 abbrev keys : List ℕ
 keys =
-    0x1010_01 ∷ 0x1010_00 ∷ 0x100A_00 ∷ 0x1009_00 ∷ 0x1008_00 ∷ 0x1005_00 ∷ 0x1003_04 ∷ 0x1003_03 ∷ 0x1003_02 ∷
-    0x1003_01 ∷ 0x1003_00 ∷ 0x1001_00 ∷ 0x1000_00 ∷ []
+    0x1018_04 ∷ 0x1018_03 ∷ 0x1018_02 ∷ 0x1018_01 ∷ 0x1018_00 ∷ 0x1017_00 ∷ 0x1015_00 ∷ 0x1014_00 ∷ 0x1011_01 ∷
+    0x1011_00 ∷ 0x1010_01 ∷ 0x1010_00 ∷ 0x100A_00 ∷ 0x1009_00 ∷ 0x1008_00 ∷ 0x1005_00 ∷ 0x1003_04 ∷ 0x1003_03 ∷
+    0x1003_02 ∷ 0x1003_01 ∷ 0x1003_00 ∷ 0x1001_00 ∷ 0x1000_00 ∷ []
 
--- in another part
+-- in the other half
 abbrev elsewhere : ℕ → Bool
-elsewhere a = leb 0x1011_00 a
+elsewhere a = leb 0x1800_00 a
 
-apart : (k a : ℕ) → k < 0x1011_00 → elsewhere a ≡ true → eqb a k ≡ false
-apart k a b e = let h = leb-true 0x1011_00 a e in ne-eqb a k (λ f. omega arith)
+apart : (k a : ℕ) → k < 0x1800_00 → elsewhere a ≡ true → eqb a k ≡ false
+apart k a b e = let h = leb-true 0x1800_00 a e in ne-eqb a k (λ f. omega arith)
 
-none : tie.Need-returns-14
+none : tie.Need-returns-24
 unfolding table
 none c = absent keys elsewhere _ (λ a e. apart _ a (c .before .pre) e) refl (c .match .rest)
 
@@ -45,4 +46,14 @@ from-1000-spec =
     (λ c. rw (c .match .keys11))
     (λ c. rw (c .match .keys12))
     (λ c. rw (c .match .keys13))
+    (λ c. rw (c .match .keys14))
+    (λ c. rw (c .match .keys15))
+    (λ c. rw (c .match .keys16))
+    (λ c. rw (c .match .keys17))
+    (λ c. rw (c .match .keys18))
+    (λ c. rw (c .match .keys19))
+    (λ c. rw (c .match .keys20))
+    (λ c. rw (c .match .keys21))
+    (λ c. rw (c .match .keys22))
+    (λ c. rw (c .match .keys23))
     none)

@@ -1,12 +1,11 @@
--- `table::from_1800` meets its contract: a line of the list for each key, and no row for any other of its part.
-use Prim.Native.Nat.{ℕ, _≤_, _<_}
+-- `table::from_1800` meets its contract: a line of the list for each key, and no row for any other of its half.
+use Prim.Native.Nat.{ℕ, _≤_}
 use native.Mathlib.Omega.{arith}
 use mathlib.Core.Path.{_≡_, refl}
-use mathlib.Core.Bool.{Bool, true, false, _||_}
+use mathlib.Core.Bool.{Bool, true, false}
 use mathlib.Core.List.{List, [], _∷_}
-use lib.Dec.{eqb, ltb, leb}
-use borrow.Author.Tests.{ne-eqb, ltb-true, leb-true}
-use Rattle.cases.proofs.Cases.{either}
+use lib.Dec.{eqb, ltb}
+use borrow.Author.Tests.{ne-eqb, ltb-true}
 use Rattle.entries.specs.Table.{table, rowOfKey}
 use Rattle.entries.proofs.Search.{absent}
 use Rattle.entries.proofs.table.from_1800.Statement.{statement}
@@ -14,20 +13,18 @@ use Rattle.entries.proofs.table.from_1800.Tie as tie
 
 abbrev keys : List ℕ
 keys =
-    0x1A01_01 ∷ 0x1A01_00 ∷ 0x1A00_01 ∷ 0x1A00_00 ∷ 0x1801_05 ∷ 0x1801_02 ∷ 0x1801_01 ∷ 0x1801_00 ∷ 0x1800_05 ∷
-    0x1800_02 ∷ 0x1800_01 ∷ 0x1800_00 ∷ []
+    0x6509_00 ∷ 0x6504_00 ∷ 0x6503_00 ∷ 0x6501_00 ∷ 0x6500_00 ∷ 0x6200_00 ∷ 0x6005_01 ∷ 0x6005_00 ∷ 0x6004_00 ∷
+    0x6003_00 ∷ 0x6002_00 ∷ 0x6000_00 ∷ 0x1A01_01 ∷ 0x1A01_00 ∷ 0x1A00_01 ∷ 0x1A00_00 ∷ 0x1801_05 ∷ 0x1801_02 ∷
+    0x1801_01 ∷ 0x1801_00 ∷ 0x1800_05 ∷ 0x1800_02 ∷ 0x1800_01 ∷ 0x1800_00 ∷ []
 
--- in another part
+-- in the other half
 abbrev elsewhere : ℕ → Bool
-elsewhere a = ltb a 0x1800_00 || leb 0x6000_00 a
+elsewhere a = ltb a 0x1800_00
 
-apart : (k a : ℕ) → (0x1800_00 ≤ k) × (k < 0x6000_00) → elsewhere a ≡ true → eqb a k ≡ false
-apart k a b e =
-    either (ltb a 0x1800_00) (leb 0x6000_00 a) e
-    (λ x. let h = ltb-true a 0x1800_00 x in ne-eqb a k (λ f. omega arith))
-    (λ x. let h = leb-true 0x6000_00 a x in ne-eqb a k (λ f. omega arith))
+apart : (k a : ℕ) → 0x1800_00 ≤ k → elsewhere a ≡ true → eqb a k ≡ false
+apart k a b e = let h = ltb-true a 0x1800_00 e in ne-eqb a k (λ f. omega arith)
 
-none : tie.Need-returns-13
+none : tie.Need-returns-25
 unfolding table
 none c = absent keys elsewhere _ (λ a e. apart _ a (c .before .pre) e) refl (c .match .rest)
 
@@ -48,4 +45,16 @@ from-1800-spec =
     (λ c. rw (c .match .keys10))
     (λ c. rw (c .match .keys11))
     (λ c. rw (c .match .keys12))
+    (λ c. rw (c .match .keys13))
+    (λ c. rw (c .match .keys14))
+    (λ c. rw (c .match .keys15))
+    (λ c. rw (c .match .keys16))
+    (λ c. rw (c .match .keys17))
+    (λ c. rw (c .match .keys18))
+    (λ c. rw (c .match .keys19))
+    (λ c. rw (c .match .keys20))
+    (λ c. rw (c .match .keys21))
+    (λ c. rw (c .match .keys22))
+    (λ c. rw (c .match .keys23))
+    (λ c. rw (c .match .keys24))
     none)
