@@ -1,4 +1,3 @@
-pub mod Beside
 pub mod Listed
 pub mod Found
 pub mod Search

@@ -1,17 +1,16 @@
 -- The row of a key: it stands in the list, or no row has the key. Each index of the list has the sub-index 0. Assumes nothing.
-use Prim.Native.Nat.{ℕ, zero, suc, _<_}
+use Prim.Native.Nat.{ℕ, zero, suc, _<_, _≤_}
 use native.Mathlib.Omega.{arith}
 use mathlib.Core.Path.{_≡_, refl, sym, ap, _∙_}
 use mathlib.Core.Logic.{_⊎_, inl, inr}
 use mathlib.Core.Bool.{Bool, true, false, _||_, _&&_}
 use mathlib.Core.List.{List, [], _∷_, map}
-use lib.Dec.{eqb}
-use borrow.Author.Tests.{eqb-true, eqb-false, ne-eqb, eq-eqb}
+use lib.Dec.{eqb, leb, ltb}
+use borrow.Author.Tests.{eqb-true, eqb-false, ne-eqb, eq-eqb, leb-true, ltb-true}
 use Rattle.cases.proofs.Cases.{true-false, test, both, either}
 use Rattle.entries.specs.declared.table.Row.{Row}
 use Rattle.entries.specs.Table.{table, key, index, width, keyOf, noRow, withKey, rowOfKey}
 use Rattle.entries.specs.Laws.{Listed, HasIndex, Stands}
-use Rattle.entries.proofs.Beside.{Beside}
 use Rattle.entries.proofs.Listed.{In, here, later, agree}
 
 -- what is known of the row r that was sought for the key k in l
@@ -76,6 +75,11 @@ no-first i e r h =
     let f = agree (λ q. eqb (width (rowOfKey (keyOf (index q) 0))) 0) (λ q. false) first r (h .0) in
     true-false (sym (eq-eqb _ 0 e) ∙ (rw (h .1) at f))
 
+-- What the default arm of a `match` on a number knows: the number is none of the keys (last arm's key first).
+abbrev Beside : ℕ → List ℕ → Type 0
+Beside n [] = Unit {0}
+Beside n (k ∷ ks) = Beside n ks × (n ≡ k → ⊥)
+
 abbrev listed : List ℕ → ℕ → Bool
 listed [] a = false
 listed (k ∷ ks) a = eqb a k || listed ks a
@@ -101,7 +105,14 @@ absent-in (r ∷ l) ks t k o e b =
     let other = either (listed ks (key r)) (t (key r)) (h .0) (λ f. not-listed k (key r) ks b f) (λ f. o (key r) f) in
     rw other (absent-in l ks t k o (h .1) b)
 
-pub absent : (ks : List ℕ) (t : ℕ → Bool) (k : ℕ) → ((a : ℕ) → t a ≡ true → eqb a k ≡ false) → all-listed ks t table ≡ true → Beside k ks
+absent : (ks : List ℕ) (t : ℕ → Bool) (k : ℕ) → ((a : ℕ) → t a ≡ true → eqb a k ≡ false) → all-listed ks t table ≡ true → Beside k ks
     → noRow ≡ rowOfKey k
 unfolding rowOfKey
 absent ks t k o e b = absent-in table ks t k o e b
+
+-- the lower half ends before b, and the upper half begins there
+pub absent-low : (b : ℕ) (ks : List ℕ) (k : ℕ) → k < b → all-listed ks (leb b) table ≡ true → Beside k ks → noRow ≡ rowOfKey k
+absent-low b ks k l = absent ks (leb b) k (λ a e. let h = leb-true b a e in ne-eqb a k (λ f. omega arith))
+
+pub absent-high : (b : ℕ) (ks : List ℕ) (k : ℕ) → b ≤ k → all-listed ks (λ a. ltb a b) table ≡ true → Beside k ks → noRow ≡ rowOfKey k
+absent-high b ks k l = absent ks (λ a. ltb a b) k (λ a e. let h = ltb-true a b e in ne-eqb a k (λ f. omega arith))

@@ -253,6 +253,7 @@ fn reads() -> Vec<Case> {
     let uploading = then(operational(), [read(0x1008, 0), Call::Slot]);
     let ending = then(uploading.clone(), [segment(0), Call::Slot]);
     let no_index = "581 8 80 00 20 00 00 00 02 06";
+    let no_sub_index = "581 8 80 01 18 03 11 00 09 06";
     let blank = "581 8 80 04 60 00 24 00 00 08";
     let full = "581 8 00 48 61 79 62 6C 65 61";
     let last = "581 8 19 74 65 72 00 00 00 00";
@@ -261,6 +262,8 @@ fn reads() -> Vec<Case> {
         asked("read-1000", 0x1000, 0, "581 8 43 00 10 00 96 01 08 00"),
         asked("read-1018-4", 0x1018, 4, "581 8 43 18 10 04 04 00 00 00"),
         asked("read-no-index", 0x2000, 0, no_index),
+        asked("read-no-sub-index", 0x1801, 3, no_sub_index),
+        asked("read-6200", 0x6200, 0, "581 8 4B 00 62 00 64 00 00 00"),
         case("read-blank", missing, read(0x6004, 0), blank),
         asked("read-1008", 0x1008, 0, "581 8 41 08 10 00 0A 00 00 00"),
         case("read-segment", uploading, segment(0), full),

@@ -1,13 +1,9 @@
 -- `table::from_1000` meets its contract: a line of the list for each key, and no row for any other of its half.
-use Prim.Native.Nat.{ℕ, _<_}
-use native.Mathlib.Omega.{arith}
-use mathlib.Core.Path.{_≡_, refl}
-use mathlib.Core.Bool.{Bool, true, false}
+use Prim.Native.Nat.{ℕ}
+use mathlib.Core.Path.{refl}
 use mathlib.Core.List.{List, [], _∷_}
-use lib.Dec.{eqb, leb}
-use borrow.Author.Tests.{ne-eqb, leb-true}
 use Rattle.entries.specs.Table.{table, rowOfKey}
-use Rattle.entries.proofs.Search.{absent}
+use Rattle.entries.proofs.Search.{absent-low}
 use Rattle.entries.proofs.table.from_1000.Statement.{statement}
 use Rattle.entries.proofs.table.from_1000.Tie as tie
 
@@ -17,16 +13,9 @@ keys =
     0x1011_00 ∷ 0x1010_01 ∷ 0x1010_00 ∷ 0x100A_00 ∷ 0x1009_00 ∷ 0x1008_00 ∷ 0x1005_00 ∷ 0x1003_04 ∷ 0x1003_03 ∷
     0x1003_02 ∷ 0x1003_01 ∷ 0x1003_00 ∷ 0x1001_00 ∷ 0x1000_00 ∷ []
 
--- in the other half
-abbrev elsewhere : ℕ → Bool
-elsewhere a = leb 0x1800_00 a
-
-apart : (k a : ℕ) → k < 0x1800_00 → elsewhere a ≡ true → eqb a k ≡ false
-apart k a b e = let h = leb-true 0x1800_00 a e in ne-eqb a k (λ f. omega arith)
-
 none : tie.Need-returns-24
 unfolding table
-none c = absent keys elsewhere _ (λ a e. apart _ a (c .before .pre) e) refl (c .match .rest)
+none c = absent-low 0x1800_00 keys _ (c .before .pre) refl (c .match .rest)
 
 pub from-1000-spec : {M : Type 1} → statement M
 unfolding table rowOfKey

@@ -1,13 +1,9 @@
 -- `table::from_1800` meets its contract: a line of the list for each key, and no row for any other of its half.
-use Prim.Native.Nat.{ℕ, _≤_}
-use native.Mathlib.Omega.{arith}
-use mathlib.Core.Path.{_≡_, refl}
-use mathlib.Core.Bool.{Bool, true, false}
+use Prim.Native.Nat.{ℕ}
+use mathlib.Core.Path.{refl}
 use mathlib.Core.List.{List, [], _∷_}
-use lib.Dec.{eqb, ltb}
-use borrow.Author.Tests.{ne-eqb, ltb-true}
 use Rattle.entries.specs.Table.{table, rowOfKey}
-use Rattle.entries.proofs.Search.{absent}
+use Rattle.entries.proofs.Search.{absent-high}
 use Rattle.entries.proofs.table.from_1800.Statement.{statement}
 use Rattle.entries.proofs.table.from_1800.Tie as tie
 
@@ -17,16 +13,9 @@ keys =
     0x6003_00 ∷ 0x6002_00 ∷ 0x6000_00 ∷ 0x1A01_01 ∷ 0x1A01_00 ∷ 0x1A00_01 ∷ 0x1A00_00 ∷ 0x1801_05 ∷ 0x1801_02 ∷
     0x1801_01 ∷ 0x1801_00 ∷ 0x1800_05 ∷ 0x1800_02 ∷ 0x1800_01 ∷ 0x1800_00 ∷ []
 
--- in the other half
-abbrev elsewhere : ℕ → Bool
-elsewhere a = ltb a 0x1800_00
-
-apart : (k a : ℕ) → 0x1800_00 ≤ k → elsewhere a ≡ true → eqb a k ≡ false
-apart k a b e = let h = ltb-true a 0x1800_00 e in ne-eqb a k (λ f. omega arith)
-
 none : tie.Need-returns-25
 unfolding table
-none c = absent keys elsewhere _ (λ a e. apart _ a (c .before .pre) e) refl (c .match .rest)
+none c = absent-high 0x1800_00 keys _ (c .before .pre) refl (c .match .rest)
 
 pub from-1800-spec : {M : Type 1} → statement M
 unfolding table rowOfKey
