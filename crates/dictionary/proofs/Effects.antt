@@ -16,7 +16,7 @@ use Rattle.entries.specs.declared.Device.{Device}
 use Rattle.entries.specs.declared.table.Row.{Row}
 use Rattle.entries.specs.declared.table.Found.{Found}
 use Rattle.entries.specs.declared.table.Found.the-variants.{At, NoSubIndex, NoIndex}
-use Rattle.entries.specs.Table.{missing, table, key, sub, isRw, accepted, whenBlank, source, isBlank, numberOf, keyOf, lookup}
+use Rattle.entries.specs.Table.{missing, table, key, isRw, accepted, whenBlank, source, blankIn, numberOf, keyOf, lookup}
 use Rattle.entries.specs.Laws.{Listed}
 use Rattle.entries.proofs.Listed.{agree}
 use Rattle.entries.proofs.Laws.{laws as entries-laws}
@@ -100,8 +100,7 @@ module _ (d : Device) (o : Bool) (r : Row) (v : ℕ) (valid : ValidDevice d) (t 
   found-after : (i j : ℕ) (x : Found) → lookup i j ≡ x → readOf (written d k v) o x ≡ anew es (keyOf i j) (readOf d o x)
   found-after i j (At q) e =
       let s = entries-laws .finds i j .at q .0 e in
-      let its-key : key q ≡ keyOf i j = entries-laws .keys q ∙ ap (λ n. keyOf n (sub q)) (s .0 .1) ∙ ap (keyOf i) (s .1) in
-      ap some (shown-after q (s .0 .0) ∙ ap (λ n. given es n (shown d o q)) its-key)
+      ap some (shown-after q (s .0 .0) ∙ ap (λ n. given es n (shown d o q)) (entries-laws .keys q i j s))
   found-after i j NoSubIndex e = refl
   found-after i j NoIndex e = refl
 
@@ -110,7 +109,7 @@ module _ (d : Device) (o : Bool) (r : Row) (v : ℕ) (valid : ValidDevice d) (t 
 
   -- an rw entry is not blank
   abbrev blank : Device → Row → Bool
-  blank d′ q = cond (isRw q) (isBlank (whenBlank q) d′) false
+  blank d′ q = cond (isRw q) (blankIn (whenBlank q) d′) false
 
   never-blank : (d′ : Device) → map (blank d′) table ≡ map (λ q. false) table
   unfolding table

@@ -8,7 +8,7 @@ use mathlib.Core.Option.{some}
 use Rattle.entries.specs.declared.Device.{Device}
 use Rattle.entries.specs.declared.table.Found.the-variants.{At}
 use Rattle.entries.specs.declared.table.Row.{Row}
-use Rattle.entries.specs.Table.{table, noRow, rowAt, key, index, sub, width, isRw, target, lookup}
+use Rattle.entries.specs.Table.{table, noRow, rowAt, key, index, sub, width, isRw, altered, lookup}
 use Rattle.entries.proofs.Listed.{agree}
 use Rattle.entries.specs.Laws.{columns}
 use Rattle.entries.proofs.Laws.{laws as entries-laws}
@@ -44,7 +44,7 @@ second-writes : (d : Device) (v : ℕ) → written d 0x6200_00 v ≡ written d 0
 unfolding put
 second-writes d v = refl
 
-own : map target table ≡ map (λ r. ownKey (key r)) table
+own : map altered table ≡ map (λ r. ownKey (key r)) table
 unfolding table
 own = refl
 
@@ -57,7 +57,7 @@ laws =
       written-fits = written-fits;
       reads-back = reads-back;
       typed = typed;
-      targets = agree target (λ r. ownKey (key r)) own;
+      alters = agree altered (λ r. ownKey (key r)) own;
       second-reads = second-reads;
       second-writes = second-writes;
     }

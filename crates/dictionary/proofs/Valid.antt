@@ -26,6 +26,7 @@ use Rattle.dictionary.specs.Valid.{ValidPdo, ValidCommunication, ValidSe
 use Rattle.dictionary.specs.Laws.{Takes}
 use Rattle.dictionary.specs.AcceptedLaws.{those}
 use Rattle.dictionary.proofs.Accepted.{taken}
+use Rattle.dictionary.proofs.Own.{own-preset}
 use Rattle.dictionary.proofs.Those.{of-each}
 use Rattle.dictionary.proofs.Factory.{factory-valid}
 
@@ -195,10 +196,10 @@ module _ (d : Device) (r : Row) (v : ℕ) (t : Takes d r v) where
       let u = taken d r v (t .unaborted) in
       record { long = t .long; accepted = u .0; scaling = neither scaling _ (neither _ _ (neither _ _ (u .1) .0) .0) .0 }
 
-  pub written-fits : Fits (d .settings .profile) (key r) v
+  pub written-fits : Fits (d .settings .profile) (ownKey (key r)) v
   unfolding Below
   written-fits e =
-      of-each Below (λ q. eqb (key q) presetKey) below r (t .listed) (eq-eqb _ _ e) (d .node)
+      of-each Below (λ q. eqb (key q) presetKey) below r (t .listed) (eq-eqb _ _ (own-preset (key r) e)) (d .node)
       (d .settings .profile .range) v (known .accepted)
 
   pub written-valid : ValidDevice d → ValidDevice (written d (key r) v)

@@ -8,7 +8,7 @@ use mathlib.Core.Option.{some}
 use Rattle.entries.specs.declared.Device.{Device}
 use Rattle.entries.specs.Settings.{factory}
 use Rattle.entries.specs.declared.table.Row.{Row}
-use Rattle.entries.specs.Table.{rowAt, key, index, sub, width, isRw, accepted, source, numberOf, target}
+use Rattle.entries.specs.Table.{rowAt, key, index, sub, width, isRw, accepted, source, numberOf, altered}
 use Rattle.entries.specs.Laws.{Listed, columns}
 use Rattle.dictionary.specs.declared.read.Shown.{Shown}
 use Rattle.dictionary.specs.declared.read.Shown.the-variants.{Number}
@@ -36,14 +36,14 @@ pub record Laws : Type 0 where
   -- An accepted write leaves a valid device,
   pub written-valid : (d : Device) (r : Row) (v : ℕ) → Takes d r v → ValidDevice d → ValidDevice (written d (key r) v)
   -- is one that `write` takes,
-  pub written-fits : (d : Device) (r : Row) (v : ℕ) → Takes d r v → Fits (d .settings .profile) (key r) v
+  pub written-fits : (d : Device) (r : Row) (v : ℕ) → Takes d r v → Fits (d .settings .profile) (ownKey (key r)) v
   -- and is what the entry then reads; 1010-1 and 1011-1 read 1.
   pub reads-back : (d : Device) (o : Bool) (r : Row) (v : ℕ) → Takes d r v
       → numberOf (source r) (written d (key r) v) o ≡ cond (isSignature (accepted r)) 1 v
   -- A number has no more bytes than its entry's type.
   pub typed : (d : Device) (o : Bool) (r : Row) → Listed r → ValidDevice d → numberOf (source r) d o < 256 ^ width r
   -- What a row names is what a write to its entry alters.
-  pub targets : (r : Row) → Listed r → target r ≡ ownKey (key r)
+  pub alters : (r : Row) → Listed r → altered r ≡ ownKey (key r)
   -- 6200-0: 1800-5 under a second index
   pub second-reads : (d : Device) (o : Bool)
       → let event = Number (d .settings .communication .pdo1 .event) in Shows d o 0x1800 5 event × Shows d o 0x6200 0 event

@@ -1,17 +1,20 @@
 -- Laws of the table: its order, and what is found for every index and sub-index.
 -- 01, chapter "Entries".
 use Prim.Native.Nat.{ℕ, _+_, _*_, _<_}
-use lib.Dec.{ltb}
+use lib.Dec.{eqb, ltb}
 use lib.ListN.{length}
 use mathlib.Core.Path.{_≡_}
 use mathlib.Core.Logic.{_↔_}
-use mathlib.Core.Bool.{Bool, true, false, _&&_}
+use mathlib.Core.Bool.{Bool, true, false, _&&_, cond}
 use mathlib.Core.List.{List, [], _∷_, map}
+use mathlib.Core.Option.{Option, none, some}
 use Rattle.entries.specs.declared.Identity.{Identity}
 use Rattle.entries.specs.Identity.{nameOf}
 use Rattle.entries.specs.declared.table.Row.{Row}
+use Rattle.entries.specs.declared.table.Accepted.the-variants.{Nothing}
+use Rattle.entries.specs.declared.table.Found.{Found}
 use Rattle.entries.specs.declared.table.Found.the-variants.{At, NoSubIndex, NoIndex}
-use Rattle.entries.specs.Table.{table, rowAt, key, index, sub, width, isRw, lookup}
+use Rattle.entries.specs.Table.{table, rowAt, key, index, sub, width, isRw, accepted, lookup}
 
 -- The list has the row r.
 abbrev pub Listed : Row → Type 0
@@ -91,13 +94,35 @@ columns =
     (0x6509, 0, 4, false) ∷
     []
 
+-- a line of these columns
+abbrev pub Line : Type 0
+Line = ℕ × ℕ × ℕ × Bool
+
+-- What the columns have for i-j: its line; if they have none, whether any line has the index.
+abbrev pub indexStands : Option (Option Line) → Option (Option Line)
+indexStands none = some none
+indexStands (some x) = some x
+
+abbrev pub soughtIn : List Line → ℕ → ℕ → Option (Option Line)
+soughtIn [] i j = none
+soughtIn (l ∷ ls) i j = cond (eqb (l .0) i) (cond (eqb (l .1) j) (some (some l)) (indexStands (soughtIn ls i j))) (soughtIn ls i j)
+
+abbrev pub lineOf : Found → Option (Option Line)
+lineOf (At r) = some (some (index r, sub r, width r, isRw r))
+lineOf NoSubIndex = some none
+lineOf NoIndex = none
+
 pub record Laws : Type 0 where
-  -- these are all the entries, and no others
+  -- What is found for every index and sub-index is what these columns have: these entries, and no others.
+  pub by-columns : (i j : ℕ) → lineOf (lookup i j) ≡ soughtIn columns i j
+  -- these are all the rows, and no others
   pub all-of-them : map (λ r. (index r, sub r, width r, isRw r)) table ≡ columns
   -- the number that names an entry elsewhere: 6003-0 is 0x6003_00
-  pub keys : (r : Row) → key r ≡ index r * 256 + sub r
+  pub keys : (r : Row) (i j : ℕ) → Stands r i j → key r ≡ i * 256 + j
   pub finds : (i j : ℕ) → Finds i j
   -- the names 1008h, 1009h and 100Ah, numbered 1 to 3
   pub names : (i : Identity) → (nameOf i 1 ≡ i .name) × (nameOf i 2 ≡ i .hardware) × (nameOf i 3 ≡ i .software)
   -- in index order, so that each entry is there once
   pub rising : risesFrom 0 (map key table) ≡ true
+  -- an ro entry accepts nothing
+  pub read-only : (r : Row) → Listed r → isRw r ≡ false → accepted r ≡ Nothing

@@ -17,7 +17,7 @@ use Rattle.entries.specs.declared.table.Accepted.the-variants.{PdoIdenti
 use Rattle.entries.specs.declared.table.WhenBlank.{WhenBlank}
 use Rattle.entries.specs.declared.table.WhenBlank.the-variants.{Never, Missing, Beyond}
 use Rattle.entries.specs.declared.table.Source.{Source}
-use Rattle.entries.specs.declared.table.Source.the-variants.{Fixed, Setting, Register, ErrorCount, Save, Load, Name}
+use Rattle.entries.specs.declared.table.Source.the-variants.{Fixed, Setting, Register, ErrorCount, Name}
 use Rattle.entries.specs.declared.table.Source.the-variants.{Vendor, Product, Revision, Serial, Position, Status, Offset}
 use Rattle.entries.specs.declared.table.Found.{Found}
 use Rattle.entries.specs.declared.table.Found.the-variants.{At, NoSubIndex, NoIndex}
@@ -66,9 +66,9 @@ table =
     row 0x1009 0 name ro Nothing Never (Name 2) ∷
     row 0x100A 0 name ro Nothing Never (Name 3) ∷
     row 0x1010 0 U8 ro Nothing Never (Fixed 1) ∷
-    row 0x1010 1 U32 rw (Signature 0x65766173) Never Save ∷
+    row 0x1010 1 U32 rw (Signature 0x65766173) Never (Fixed 1) ∷
     row 0x1011 0 U8 ro Nothing Never (Fixed 1) ∷
-    row 0x1011 1 U32 rw (Signature 0x64616F6C) Never Load ∷
+    row 0x1011 1 U32 rw (Signature 0x64616F6C) Never (Fixed 1) ∷
     row 0x1014 0 U32 rw EmergencyIdentifier Never (Setting 0x1014_00) ∷
     row 0x1015 0 U16 rw All Never (Setting 0x1015_00) ∷
     row 0x1017 0 U16 rw All Never (Setting 0x1017_00) ∷
@@ -132,10 +132,10 @@ abbrev pub missing : Device → Bool
 missing d = not (d .reading .good)
 
 -- 6004h is blank while missing; 1003-1..4 beyond the count are blank.
-abbrev pub isBlank : WhenBlank → Device → Bool
-isBlank Never d = false
-isBlank Missing d = missing d
-isBlank (Beyond k) d = ltb (d .errors) k
+abbrev pub blankIn : WhenBlank → Device → Bool
+blankIn Never d = false
+blankIn Missing d = missing d
+blankIn (Beyond k) d = ltb (d .errors) k
 
 -- each setting, by the key of its entry
 abbrev pub settingsOf : Settings → List (ℕ × ℕ)
@@ -173,9 +173,6 @@ numberOf (Setting k) d o = beside (settingsOf (d .settings)) k
 numberOf Register d o = register d
 -- count 0..4
 numberOf ErrorCount d o = d .errors
--- 1010-1, 1011-1: read 1
-numberOf Save d o = 1
-numberOf Load d o = 1
 -- 1008h, 1009h, 100Ah: the size
 numberOf (Name k) d o = nameOf (d .identity) k .length
 numberOf Vendor d o = d .identity .vendor
@@ -187,25 +184,23 @@ numberOf Position d o = position (d .settings .profile) (d .reading .raw)
 numberOf Status d o = d .settings .profile .operating + cond o 0x8000 0
 numberOf Offset d o = twos (d .settings .profile .offset)
 
--- What a write to an entry of key k alters has this name: of a setting the key of its own entry, else k.
-abbrev pub named : Source → ℕ → ℕ
-named (Fixed n) k = k
-named (Setting own) k = own
-named Register k = k
-named ErrorCount k = k
-named Save k = k
-named Load k = k
-named (Name n) k = k
-named Vendor k = k
-named Product k = k
-named Revision k = k
-named Serial k = k
-named Position k = k
-named Status k = k
-named Offset k = k
+-- The name of what a write to an entry of key k alters: of a setting the key of its own entry, else k.
+abbrev pub alters : Source → ℕ → ℕ
+alters (Fixed n) k = k
+alters (Setting own) k = own
+alters Register k = k
+alters ErrorCount k = k
+alters (Name n) k = k
+alters Vendor k = k
+alters Product k = k
+alters Revision k = k
+alters Serial k = k
+alters Position k = k
+alters Status k = k
+alters Offset k = k
 
-abbrev pub target : Row → ℕ
-target r = named (source r) (key r)
+abbrev pub altered : Row → ℕ
+altered r = alters (source r) (key r)
 
 -- no entry, and so past the end of the list
 abbrev pub noRow : Row

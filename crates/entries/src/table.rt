@@ -1,7 +1,7 @@
 //! The list of entries, in index order, one line for each, and the search in it. 01, "Entries".
 ghost use mathlib.Core.Path.{_≡_};
 ghost use Prim.Native.Nat.{_<_, _≤_};
-ghost use Rattle.entries.specs.Table.{keyOf, rowOfKey, lookup, target as targetIn};
+ghost use Rattle.entries.specs.Table.{keyOf, rowOfKey, lookup, altered as alteredBy};
 use Accepted::All;
 use Accepted::BelowRange;
 use Accepted::Between;
@@ -14,14 +14,12 @@ use Accepted::Signature;
 use Accepted::TransmissionType;
 use Source::ErrorCount;
 use Source::Fixed;
-use Source::Load;
 use Source::Name;
 use Source::Offset;
 use Source::Position;
 use Source::Product;
 use Source::Register;
 use Source::Revision;
-use Source::Save;
 use Source::Serial;
 use Source::Setting;
 use Source::Status;
@@ -57,8 +55,6 @@ pub enum Source {
     Setting(u32),
     Register,
     ErrorCount,
-    Save,
-    Load,
     Name(u8),
     Vendor,
     Product,
@@ -144,7 +140,8 @@ const RW: bool = true;
 // No entry: it has no type.
 const NO_ROW: Row = Row(0, 0, RO, Nothing, Never, Fixed(0));
 
-// Each index has the sub-index 0: if the list has no row for it, there is no such index.
+// Each index has the sub-index 0: if the list has no row for that, there is no such index. The second look is a second turn of the loop,
+// so that the list is compiled once.
 pub fn find(index: u16, sub: u8) -> Found
     ensures { λ r. ⌜ r ≡ lookup index sub ⌝ }
 {
@@ -193,9 +190,9 @@ fn from_1000(k: u32) -> Row
         0x1009_00 => Row(k, NAME, RO, Nothing, Never, Name(2)),
         0x100A_00 => Row(k, NAME, RO, Nothing, Never, Name(3)),
         0x1010_00 => Row(k, U8, RO, Nothing, Never, Fixed(1)),
-        0x1010_01 => Row(k, U32, RW, Signature(0x6576_6173), Never, Save),
+        0x1010_01 => Row(k, U32, RW, Signature(0x6576_6173), Never, Fixed(1)),
         0x1011_00 => Row(k, U8, RO, Nothing, Never, Fixed(1)),
-        0x1011_01 => Row(k, U32, RW, Signature(0x6461_6F6C), Never, Load),
+        0x1011_01 => Row(k, U32, RW, Signature(0x6461_6F6C), Never, Fixed(1)),
         0x1014_00 => Row(k, U32, RW, EmergencyIdentifier, Never, Setting(EMERGENCY)),
         0x1015_00 => Row(k, U16, RW, All, Never, Setting(INHIBIT)),
         0x1017_00 => Row(k, U16, RW, All, Never, Setting(HEARTBEAT)),
@@ -242,9 +239,9 @@ fn from_1800(k: u32) -> Row
     }
 }
 
-// What a write to the entry alters: the setting that the row names, or what its own key names.
-pub fn target(row: Row) -> u32
-    ensures { λ r. ⌜ r ≡ targetIn row ⌝ }
+// The name of what a write to the entry alters: of the setting that the row shows, else the key of the row.
+pub fn altered(row: Row) -> u32
+    ensures { λ r. ⌜ r ≡ alteredBy row ⌝ }
 {
     let source = row.5;
     let Setting(own) = source else {

@@ -74,7 +74,7 @@ pub record Asked : Type 0 where
   pub entries·Settings·factory : AsksNothing entries.Settings.factory.ended entries.Settings.factory.Reads.Asked
   pub entries·name-of : AsksNothing entries.name_of.ended entries.name_of.Reads.Asked
   pub entries·table·find : AsksNothing entries.table.find.ended entries.table.find.Reads.Asked
-  pub entries·table·target : AsksNothing entries.table.target.ended entries.table.target.Reads.Asked
+  pub entries·table·altered : AsksNothing entries.table.altered.ended entries.table.altered.Reads.Asked
   pub entries·table·key-of : AsksNothing entries.table.key_of.ended entries.table.key_of.Reads.Asked
   pub acceptance·abort-code : AsksNothing acceptance.abort_code.ended acceptance.abort_code.Reads.Asked
   pub acceptance·value-abort-code : AsksNothing acceptance.value_abort_code.ended acceptance.value_abort_code.Reads.Asked

@@ -71,7 +71,7 @@ pub record Outcomes : Type 0 where
   pub entries·Settings·factory : OneOutcome entries.Settings.factory.ended entries.Settings.factory.Reads.Learnt
   pub entries·name-of : OneOutcome entries.name_of.ended entries.name_of.Reads.Learnt
   pub entries·table·find : OneOutcome entries.table.find.ended entries.table.find.Reads.Learnt
-  pub entries·table·target : OneOutcome entries.table.target.ended entries.table.target.Reads.Learnt
+  pub entries·table·altered : OneOutcome entries.table.altered.ended entries.table.altered.Reads.Learnt
   pub entries·table·key-of : OneOutcome entries.table.key_of.ended entries.table.key_of.Reads.Learnt
   pub acceptance·abort-code : OneOutcome acceptance.abort_code.ended acceptance.abort_code.Reads.Learnt
   pub acceptance·value-abort-code : OneOutcome acceptance.value_abort_code.ended acceptance.value_abort_code.Reads.Learnt

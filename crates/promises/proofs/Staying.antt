@@ -12,7 +12,7 @@ use Rattle.entries.specs.declared.table.Row.{Row}
 use Rattle.entries.specs.declared.table.Found.{Found}
 use Rattle.entries.specs.declared.table.Found.the-variants.{At, NoSubIndex, NoIndex}
 use Rattle.entries.specs.Settings.{factory}
-use Rattle.entries.specs.Table.{table, key, sub, keyOf, lookup}
+use Rattle.entries.specs.Table.{table, key, keyOf, lookup}
 use Rattle.entries.specs.Laws.{Listed}
 use Rattle.entries.specs.Keys.{saveKey, loadKey}
 use Rattle.entries.proofs.Laws.{laws as entries-laws}
@@ -63,8 +63,7 @@ module _ (d e : Device) (o u : Bool) where
     found-alike : (i j : ℕ) (x : Found) → lookup i j ≡ x → has (keyOf i j) telling ≡ false → readOf d o x ≡ readOf e u x
     found-alike i j (At w) f n =
         let s = entries-laws .finds i j .at w .0 f in
-        let its-key : keyOf i j ≡ key w = sym (entries-laws .keys w ∙ ap (λ m. keyOf m (sub w)) (s .0 .1) ∙ ap (keyOf i) (s .1)) in
-        ap some (shown-alike w (s .0 .0) (subst (λ k. has k telling ≡ false) its-key n))
+        ap some (shown-alike w (s .0 .0) (subst (λ k. has k telling ≡ false) (sym (entries-laws .keys w i j s)) n))
     found-alike i j NoSubIndex f n = refl
     found-alike i j NoIndex f n = refl
 

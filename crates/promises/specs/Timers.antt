@@ -84,7 +84,8 @@ clockWritten sub5 before after k =
       syncs = cond (switchedOn before after) 0 (k .syncs);
     }
 
--- A write to the entry of key k: the heartbeat is counted from its write. Writing 1015h doesn't alter a running inhibit time.
+-- What is named k is written, a setting by the key of its own entry (6200-0 is named as 1800-5).
+-- The heartbeat is counted from its write. Writing 1015h doesn't alter a running inhibit time.
 abbrev pub timersWritten : ℕ → Communication → Communication → Timers → Timers
 timersWritten k before after t =
     record {

@@ -87,7 +87,7 @@ module _ (d : Device) (o : Bool) (f : List ℕ) (n : aborting f ≡ false) where
   by-found (At r) false true a b q =
       let w = width r in
       let v = cutTo w (dataOf f) in
-      let own = laws .targets r (entries-laws .finds (indexOf f) (subOf f) .at r .0 q .0 .0) in
+      let own = laws .alters r (entries-laws .finds (indexOf f) (subOf f) .at r .0 q .0 .0) in
       rw (n, a, b, q, own, length-is (eqb (byte f 0 % 2) 1) (byte f 0 / 4) w)
       (write-due f (key r) v (isRw r) (ltb w (lengthOf f w)) (ltb (lengthOf f w) w)
       (acceptsIn d r v) (isSignature (accepted r)) (barred d (key r) v))

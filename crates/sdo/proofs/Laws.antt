@@ -15,7 +15,7 @@ use Rattle.entries.specs.declared.Device.{Device}
 use Rattle.entries.specs.declared.table.Row.{Row}
 use Rattle.entries.specs.declared.table.Found.{Found}
 use Rattle.entries.specs.declared.table.Found.the-variants.{At, NoSubIndex, NoIndex}
-use Rattle.entries.specs.Table.{key, width, whenBlank, source, isBlank, numberOf, lookup}
+use Rattle.entries.specs.Table.{key, width, whenBlank, source, blankIn, numberOf, lookup}
 use Rattle.entries.specs.Laws.{Listed}
 use Rattle.dictionary.specs.declared.read.Shown.the-variants.{Blank, Number}
 use Rattle.dictionary.specs.Reads.{shown}
@@ -106,7 +106,7 @@ module _ (d : Device) (o : Bool) (f : List ℕ) where
   unfolding shown
   unused-by x w n t h short =
       let r = t .its-row in
-      let m : numberOf (source r) d o ≡ n = number-is (isBlank (whenBlank r) d) (numberOf (source r) d o) n (t .shows) in
+      let m : numberOf (source r) d o ≡ n = number-is (blankIn (whenBlank r) d) (numberOf (source r) d o) n (t .shows) in
       let fits : n < 256 ^ w = rw (← m, t .its-width) (dictionaryLaws .typed d o r (t .listed) h) in
       let four : w + (4 - w) ≡ 4 = omega arith in
       ap (λ (k : ℕ). lowFirst k n) (sym four) ∙ numbers .unused w (4 - w) n fits

@@ -23,7 +23,7 @@ replies Nothing = false
 replies Reply = true
 replies (Write k v) = true
 
--- The device after the request.
+-- The device after the request. A write has the name of what it alters.
 abbrev pub carriedOut : Device → Effect → Device
 carriedOut d Nothing = d
 carriedOut d Reply = d

@@ -35,6 +35,7 @@ pub data Due : Type 0 where
 abbrev pub answer : List ℕ → Due → Served
 answer f none = noReply
 answer f (value width n) = answered f width n
+-- a write to 6200-0 alters what 1800-5 names
 answer f (confirmation k v) = confirmed f (ownKey k) v
 answer f (abort code) = aborted f code
 answer f (upload bytes t) = segmented bytes t

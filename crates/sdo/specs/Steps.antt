@@ -8,7 +8,7 @@ use Rattle.entries.specs.declared.Device.{Device}
 use Rattle.entries.specs.declared.table.Row.{Row}
 use Rattle.entries.specs.declared.table.Found.{Found}
 use Rattle.entries.specs.declared.table.Found.the-variants.{At, NoSubIndex, NoIndex}
-use Rattle.entries.specs.Table.{width, isRw, target, lookup}
+use Rattle.entries.specs.Table.{width, isRw, altered, lookup}
 use Rattle.dictionary.specs.Reads.{shown}
 use Rattle.dictionary.specs.Accepted.{abortCode}
 use Rattle.sdo.specs.AbortCodes.{requestCode, foundCode, readOnly, tooLong, tooShort}
@@ -31,7 +31,7 @@ writeCode d n v r =
 abbrev pub rowReply : Device → List ℕ → ℕ → ℕ → Row → Served
 rowReply d f n content r =
     let v = cutTo (width r) content in
-    cond (eqb (writeCode d n v r) 0) (confirmed f (target r) v) (aborted f (writeCode d n v r))
+    cond (eqb (writeCode d n v r) 0) (confirmed f (altered r) v) (aborted f (writeCode d n v r))
 
 abbrev pub entryReply : Device → Bool → List ℕ → Row → Access → Served
 entryReply d o f r Read = shownReply f (width r) (shown d o r)

@@ -2,8 +2,8 @@
 use can::Bytes;
 use names::Transfer;
 
-// What a request does: nothing (the client's abort, which only ends a transfer), its reply waits, or its reply waits and an entry,
-// named by its key, gets a value.
+// What a request does: nothing (the client's abort, which only ends a transfer), its reply waits, or its reply waits and what
+// has the name `key` gets a value: for a setting the key of its own entry.
 pub enum Effect {
     Nothing,
     Reply,

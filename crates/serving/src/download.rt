@@ -22,7 +22,7 @@ pub fn to_row(device: Device, bytes: Bytes, length: u8, content: u32, row: Row) 
     if code != 0 {
         return replies::abort(bytes, code);
     }
-    replies::confirm(bytes, entries::table::target(row), value)
+    replies::confirm(bytes, entries::table::altered(row), value)
 }
 
 // Bytes past the entry's length are ignored.

@@ -15,7 +15,6 @@ use Rattle.entries.specs.Table.{lookup}
 use Rattle.entries.specs.declared.table.Found.{Found}
 use Rattle.dictionary.specs.Writes.{ownKey, Fits}
 use Rattle.dictionary.proofs.Laws.{laws}
-use Rattle.dictionary.proofs.Own.{own-preset}
 use Rattle.sdo.specs.declared.reply.Effect.{Effect}
 use Rattle.sdo.specs.declared.reply.Effect.the-variants.{Nothing, Reply, Write}
 use Rattle.sdo.specs.Request.{indexOf, subOf}
@@ -77,8 +76,7 @@ module _ (h : Head) where
     serves l x (abort code) k = replies _ _ l
     serves l x (upload b u) k = replies _ _ l
     serves l x (confirmation i y) k =
-        let fits = laws .written-fits (c .device) (k .its-row) y (k .takes) in
-        writes _ (ownKey i) y l (λ e. fits (sym (k .key) ∙ own-preset i e))
+        writes _ (ownKey i) y l (rw (k .key) (laws .written-fits (c .device) (k .its-row) y (k .takes)))
 
     asks : Means c t 0 (requestedBy (c .nmt) (c .device) t (h .line) f) (requested h f)
     asks =

@@ -44,6 +44,7 @@ abbrev pub orderedBy : Order → Transfer → Heard
 orderedBy o t =
     record { refusal = 0; transfer = keptBy o t; way = orderWay o; state = o .state; all = o .all; reply = pad 8 []; key = 0; value = 0 }
 
+-- by the name of what is written
 abbrev pub writeWay : ℕ → ℕ
 writeWay k =
     cond (eqb k errorCountKey) 8

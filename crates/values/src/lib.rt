@@ -4,7 +4,7 @@ ghost use mathlib.Core.Bool.{not, cond};
 ghost use Prim.Native.Nat.{_+_, _<_};
 ghost use Rattle.position.specs.Profile.{ValidProfile};
 ghost use Rattle.entries.specs.Identity.{nameOf};
-ghost use Rattle.entries.specs.Table.{isBlank, settingsOf, beside, numberOf};
+ghost use Rattle.entries.specs.Table.{blankIn, settingsOf, beside, numberOf};
 ghost use Rattle.dictionary.specs.Reads.{shown};
 use dictionary::read::Shown;
 use entries::Device;
@@ -30,7 +30,7 @@ pub fn read(device: Device, operational: bool, row: Row) -> Shown
 }
 
 fn is_blank(when: WhenBlank, device: Device) -> bool
-    ensures { λ r. ⌜ r ≡ isBlank when device ⌝ }
+    ensures { λ r. ⌜ r ≡ blankIn when device ⌝ }
 {
     match when {
         WhenBlank::Never => false,
@@ -51,8 +51,6 @@ fn number(source: Source, device: Device, operational: bool) -> u32
         Source::Setting(key) => setting(settings, key),
         Source::Register => register(device.reading.good),
         Source::ErrorCount => device.errors,
-        Source::Save => 1,
-        Source::Load => 1,
         Source::Name(number) => size(identity, number),
         Source::Vendor => identity.vendor,
         Source::Product => identity.product,
@@ -88,7 +86,7 @@ fn setting(settings: Settings, key: u32) -> u32
     }
 }
 
-// Of the name of this number. It is asked here and not of the name, because a name would be copied.
+// The size of the name of this number. `entries::name_of` is not asked, because it would copy the name.
 fn size(identity: Identity, number: u8) -> u32
     ensures { λ r. ⌜ r ≡ nameOf identity number .length ⌝ }
 {

@@ -24,7 +24,7 @@ use position::FULL_RANGE;
 use position::Profile;
 use position::SCALED_RANGE;
 
-// The device after a write to which `acceptance::abort_code` gives 0.
+// The device after a write to which `acceptance::abort_code` gives 0. The key is the name that `entries::table::altered` gives.
 pub fn write(device: Device, key: u32, value: u32) -> Device
     requires { ⌜ (ValidProfile (device .settings .profile)) × (Fits (device .settings .profile) key value) ⌝ }
     ensures { λ r. ⌜ r ≡ put device key value ⌝ }

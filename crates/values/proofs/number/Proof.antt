@@ -22,17 +22,17 @@ register-requires c κs = search needs
 enum-told-2 : tie.Need-enum-told-2
 enum-told-2 c = search needs
 
-enum-told-3 : tie.Need-enum-told-3
-enum-told-3 c = search needs
-
-enum-told-4 : tie.Need-enum-told-4
-enum-told-4 c = search needs
-
 enum-known-source-3 : tie.Need-enum-known-source-3
 enum-known-source-3 c = search needs
 
 size-requires : tie.Need-size-requires
 size-requires c κs = search needs
+
+enum-told-3 : tie.Need-enum-told-3
+enum-told-3 c = search needs
+
+enum-told-4 : tie.Need-enum-told-4
+enum-told-4 c = search needs
 
 enum-told-5 : tie.Need-enum-told-5
 enum-told-5 c = search needs
@@ -43,23 +43,17 @@ enum-told-6 c = search needs
 enum-told-7 : tie.Need-enum-told-7
 enum-told-7 c = search needs
 
-enum-told-8 : tie.Need-enum-told-8
-enum-told-8 c = search needs
-
-enum-told-9 : tie.Need-enum-told-9
-enum-told-9 c = search needs
-
 position-of-requires : tie.Need-position-of-requires
 position-of-requires c κs = search needs
 
-enum-told-10 : tie.Need-enum-told-10
-enum-told-10 c = search needs
+enum-told-8 : tie.Need-enum-told-8
+enum-told-8 c = search needs
 
 status-requires : tie.Need-status-requires
 status-requires c κs = search needs
 
-enum-told-11 : tie.Need-enum-told-11
-enum-told-11 c = search needs
+enum-told-9 : tie.Need-enum-told-9
+enum-told-9 c = search needs
 
 bits-requires : tie.Need-bits-requires
 bits-requires c κs = search needs
@@ -77,13 +71,13 @@ returns-4 : tie.Need-returns-4
 returns-4 c = rw (c .enum-told2 .given .1)
 
 returns-5 : tie.Need-returns-5
-returns-5 c = rw (c .enum-told3 .given .1)
+returns-5 c = rw (c .before .before .source3 .given .1, c .size .ensures)
 
 returns-6 : tie.Need-returns-6
-returns-6 c = rw (c .enum-told4 .given .1)
+returns-6 c = rw (c .enum-told3 .given .1)
 
 returns-7 : tie.Need-returns-7
-returns-7 c = rw (c .before .before .source3 .given .1, c .size .ensures)
+returns-7 c = rw (c .enum-told4 .given .1)
 
 returns-8 : tie.Need-returns-8
 returns-8 c = rw (c .enum-told5 .given .1)
@@ -92,19 +86,13 @@ returns-9 : tie.Need-returns-9
 returns-9 c = rw (c .enum-told6 .given .1)
 
 returns-10 : tie.Need-returns-10
-returns-10 c = rw (c .enum-told7 .given .1)
+returns-10 c = rw (c .before .enum-told7 .given .1, c .position-of .ensures)
 
 returns-11 : tie.Need-returns-11
-returns-11 c = rw (c .enum-told8 .given .1)
+returns-11 c = rw (c .before .enum-told8 .given .1, c .status .ensures)
 
 returns-12 : tie.Need-returns-12
-returns-12 c = rw (c .before .enum-told9 .given .1, c .position-of .ensures)
-
-returns-13 : tie.Need-returns-13
-returns-13 c = rw (c .before .enum-told10 .given .1, c .status .ensures)
-
-returns-14 : tie.Need-returns-14
-returns-14 c = rw (c .before .before .enum-told11 .given .1, c .bits .ensures, offset-passed (c .before .before .before .before .before .before .before .pre))
+returns-12 c = rw (c .before .before .enum-told9 .given .1, c .bits .ensures, offset-passed (c .before .before .before .before .before .before .before .pre))
 
 pub number-spec : {M : Type 1} → statement M
 number-spec =
@@ -116,19 +104,17 @@ number-spec =
     enum-told
     register-requires
     enum-told-2
-    enum-told-3
-    enum-told-4
     enum-known-source-3
     size-requires
+    enum-told-3
+    enum-told-4
     enum-told-5
     enum-told-6
     enum-told-7
-    enum-told-8
-    enum-told-9
     position-of-requires
-    enum-told-10
+    enum-told-8
     status-requires
-    enum-told-11
+    enum-told-9
     bits-requires
     returns
     returns-2
@@ -141,6 +127,4 @@ number-spec =
     returns-9
     returns-10
     returns-11
-    returns-12
-    returns-13
-    returns-14)
+    returns-12)

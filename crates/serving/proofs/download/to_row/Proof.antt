@@ -22,8 +22,8 @@ returns c =
       c .abort .ensures,
     )
 
-target-requires : tie.Need-target-requires
-target-requires c κs = search needs
+altered-requires : tie.Need-altered-requires
+altered-requires c κs = search needs
 
 confirm-requires : tie.Need-confirm-requires
 confirm-requires c κs = search needs
@@ -35,7 +35,7 @@ returns-2 c =
       ← (c .before .before .before .code .ensures),
       c .before .before .if1 .left,
       c .confirm .ensures,
-      c .before .target .ensures,
+      c .before .altered .ensures,
     )
 
 pub to-row-spec : {M : Type 1} → statement M
@@ -46,6 +46,6 @@ to-row-spec =
     code-requires
     abort-requires
     returns
-    target-requires
+    altered-requires
     confirm-requires
     returns-2)
