@@ -1,11 +1,7 @@
 """Where the data sheet and the head differ: each function yields one line for each difference."""
-import sys
-
-from head import ROOT, VALUE, WRITE, WRITTEN, abort_code, upload
+from entry_list import Refused, code_rows, name
+from head import VALUE, WRITE, WRITTEN, abort_code, upload
 from sheet import ARRAY, NAME, VAR, Fault, at_node
-
-sys.path.append(str(ROOT / "tools"))
-from entry_list import CODE as LIST, Refused, code_rows, name
 
 NODES = (1, 127)
 

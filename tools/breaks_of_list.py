@@ -4,6 +4,35 @@ AT_1015 = "        0x1015_00 => Row(k, U16, RW, All, Never, Setting(INHIBIT)),\n
 AT_1017 = "        0x1017_00 => Row(k, U16, RW, All, Never, Setting(HEARTBEAT)),\n"
 AT_1801 = "        0x1801_05 => Row(k, U16, RW, All, Never, Setting(TPDO2_EVENT)),\n"
 AT_6200 = "0x6200_00 => Row(k, U16, RW, All, Never, Setting(TPDO1_EVENT)"
+AT_1800 = "0x1800_00 => Row(k, U8, RO, Nothing, Never, Fixed(5)"
+AT_6504 = "0x6504_00 => Row(k, U16, RO, Nothing, Never, Fixed(1)"
+SIGNATURES = """\
+        0x1010_01 => Row(k, U32, RW, Signature(0x6576_6173), Never, Fixed(1)),
+        0x1011_00 => Row(k, U8, RO, Nothing, Never, Fixed(1)),
+        0x1011_01 => Row(k, U32, RW, Signature(0x6461_6F6C), Never, Fixed(1)),
+"""
+IDENTITY = """\
+        0x1018_01 => Row(k, U32, RO, Nothing, Never, Vendor),
+        0x1018_02 => Row(k, U32, RO, Nothing, Never, Product),
+        0x1018_03 => Row(k, U32, RO, Nothing, Never, Revision),
+        0x1018_04 => Row(k, U32, RO, Nothing, Never, Serial),
+"""
+PDOS = """\
+                    identifier: 0x180 + n,
+                    transmission: 254,
+                    event: 100,
+                },
+                pdo2: Pdo {
+                    identifier: 0x280 + n,
+                    transmission: 1,
+                    event: 0,
+"""
+
+
+def swapped(text, one, other):
+    """The text with the two in each other's place."""
+    return other.join(part.replace(other, one) for part in text.split(one))
+
 
 BREAKS = [
     # the order and the number of the lines
@@ -52,15 +81,41 @@ BREAKS = [
 # Tried where 01 is there: it tells
 SCOPE_BREAKS = [
     ("code", AT_1801, "", "1801-5 of 01 is missing"),
-    ("code", "0x6509_00 => Row(k, S32,", "0x6509_00 => Row(k, U32,", "6509-0 is U32 ro, and S32 ro in 01"),
-    ("code", "0x1005_00 => Row(k, U32, RO, Nothing", "0x1005_00 => Row(k, U32, RW, All", "1005-0 is U32 rw, and U32 ro in 01"),
-    ("code", "Between(1_000, 1_000_000)", "Between(999, 1_000_000)", "6002-0: 01 does not say: 999..1,000,000"),
-    ("code", "Fixed(0x0008_0196)", "Fixed(0x0002_0196)", "1000-0: 01 does not say: 0002 0196h"),
-    ("code", AT_6200, AT_6200.replace("TPDO1", "TPDO2"), "6200-0: 01 does not say: 1801-5 under a second index"),
-    ("profile", "FULL_RANGE: u32 = 1_048_576", "FULL_RANGE: u32 = 1_048_575", "6002-0: 01 does not say: 1,048,575"),
-    ("factory", "event: 100", "event: 10", "1800-5: 01 does not say: 10"),
+    ("code", "0x6509_00 => Row(k, S32,", "0x6509_00 => Row(k, U32,", "6509-0: 'U32 ro', and 'S32 ro' in 01"),
+    ("code", "0x1005_00 => Row(k, U32, RO, Nothing", "0x1005_00 => Row(k, U32, RW, All", "1005-0: 'U32 rw', and 'U32 ro' in 01"),
+    # numbers that stand elsewhere in 01's table, or below it
+    ("code", "Fixed(0x0008_0196)", "Fixed(0x0002_0196)", "1000-0: '0002 0196h', and '0008 0196h' in 01"),
+    ("code", "Fixed(0x80)", "Fixed(31)", "1005-0: '31', and '80h' in 01"),
+    ("code", "Fixed(4)", "Fixed(1)", "1018-0: '1', and '4' in 01"),
+    ("code", "Fixed(4)", "Fixed(2)", "1018-0: '2', and '4' in 01"),
+    ("code", AT_1800, AT_1800.replace("Fixed(5)", "Fixed(4)"), "1800-0: '4', and '5' in 01"),
+    ("code", "Fixed(5_000)", "Fixed(1)", "6501-0: '1', and '5,000' in 01"),
+    ("code", AT_6504, AT_6504.replace("Fixed(1)", "Fixed(2)"), "6504-0: '2', and '1' in 01"),
+    # sources, accepted values and blanks of other entries
+    ("code", AT_6504, AT_6504.replace("Fixed(1)", "Register"), "6504-0: 'bit 0: as 1001', and '1' in 01"),
+    ("code", IDENTITY, swapped(IDENTITY, "Vendor", "Serial"), "1018-4: 'identity (vendor)', and 'identity (serial number)' in 01"),
+    ("code", SIGNATURES, swapped(SIGNATURES, "0x6576_6173", "0x6461_6F6C"),
+     """1010-1: 'read 1; "load" 6461 6F6Ch', and 'read 1; "save" 6576 6173h' in 01"""),
+    ("code", "Between(1_000, 1_000_000)", "Between(999, 1_000_000)", "6002-0: '1,048,576; 999..1,000,000', and '1,048,576; 1,000..1,000,000' in 01"),
+    ("code", "OperatingParameters, Never", "PdoIdentifier, Never", "6000-0: '0; bits 30..11 zero;"),
+    ("code", "Between(1_000, 1_000_000)", "PdoIdentifier", "6002-0: '1,048,576; bits 30..11 zero;"),
+    ("code", "Missing, Position", "Never, Position", "6004-0: 'position', and 'position; blank while missing' in 01"),
+    ("code", "Beyond(1), Fixed", "Never, Fixed", "1003-1: '0000 5000h', and '0000 5000h; blank beyond the count' in 01"),
+    # settings
+    ("code", AT_6200, AT_6200.replace("TPDO1", "TPDO2"), "6200-0: '1801-5 under a second index', and '1800-5 under a second index' in 01"),
+    ("profile", "FULL_RANGE: u32 = 1_048_576", "FULL_RANGE: u32 = 1_048_575", "6002-0: '1,048,575; 1,000..1,000,000', and '1,048,576;"),
+    ("factory", "event: 100", "event: 10", "1800-5: '10; all', and '100; all' in 01"),
+    ("factory", PDOS, swapped(PDOS, "0x180", "0x280"), "1801-1: '180h+N; bits 30..11 zero; with bit 31 clear also 181h..57Fh', and '280h+N; bits"),
+    ("factory", PDOS, swapped(PDOS, ": 254,", ": 1,"), "1801-2: '254; 1..240, 254, 255', and '1; 1..240, 254, 255' in 01"),
+    ("factory", PDOS, swapped(PDOS, ": 100,", ": 0,"), "1801-5: '100; all', and '0; all' in 01"),
+    # 01 itself
     ("scope", "| 1018-0, -1..4 |", "| 1018-0, -1..5 |", "1018-5 of 01 is missing"),
-    ("scope", "| 6501-0 | U32 ro |", "| 6501-0 | U16 ro |", "6501-0 is U32 ro, and U16 ro in 01"),
+    ("scope", "| 6501-0 | U32 ro |", "| 6501-0 | U16 ro |", "6501-0: 'U32 ro', and 'U16 ro' in 01"),
+    ("scope", "| U8/U32 ro |", "| U8/U16/U32 ro |", "01 has 3 types for the 2 places of 1A00-0/1, 1A01-0/1"),
+    ("scope", "| 1; 6004 0020h |", "| 6004 0020h; 1 |", "1A01-1: '6004 0020h', and '1' in 01"),
     ("scope", "| 6004-0 | U32 ro | position; blank while missing |\n", "", "01 has not 1008-0, 1009-0, 100A-0, 6004-0"),
+    ("scope", ", empties the list", "", "01 has these words 0 times: , empties the list"),
+    ("scope", "PDO identifier: bits 30..11", "PDO identifier: bits 29..11", "with bit 31 clear also 181h..57Fh', and '180h+N; bits 29..11 zero;"),
+    ("scope", " 1003-1..4 beyond the count are blank.", "", "1003-4: '0000 5000h; blank beyond the count', and '0000 5000h' in 01"),
     ("scope", "## Entries", "## Others", "01 has no table of entries"),
 ]

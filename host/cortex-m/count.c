@@ -37,7 +37,7 @@ static haybleater_received foreign = FRAME(0x123, 1, 2, 3, 4, 5, 6, 7, 8), sync 
                            stop = COMMAND(0x02), leave = COMMAND(0x80), reset_node = COMMAND(0x81), reset_communication = COMMAND(0x82);
 static haybleater_received read_6004 = REQUEST(0x40, 0x04, 0x60, 0, 0, 0, 0, 0), read_1000 = REQUEST(0x40, 0x00, 0x10, 0, 0, 0, 0, 0),
                            read_1018_4 = REQUEST(0x40, 0x18, 0x10, 4, 0, 0, 0, 0), read_2000 = REQUEST(0x40, 0x00, 0x20, 0, 0, 0, 0, 0),
-                           read_1801_3 = REQUEST(0x40, 0x01, 0x18, 3, 0, 0, 0, 0);
+                           read_1801_3 = REQUEST(0x40, 0x01, 0x18, 3, 0, 0, 0, 0), read_6200 = REQUEST(0x40, 0x00, 0x62, 0, 0, 0, 0, 0);
 static haybleater_received read_1008 = REQUEST(0x40, 0x08, 0x10, 0, 0, 0, 0, 0), segment = REQUEST(0x60, 0, 0, 0, 0, 0, 0, 0),
                            next_segment = REQUEST(0x70, 0, 0, 0, 0, 0, 0, 0);
 static haybleater_received write_1017 = REQUEST(0x2B, 0x17, 0x10, 0, 0xF4, 0x01, 0, 0), write_1800_5 = REQUEST(0x2B, 0x00, 0x18, 5, 50, 0, 0, 0),
@@ -91,6 +91,7 @@ static const struct {
     {"read-1018-4", EXPORT(receive), &operational, &read_1018_4, 1},
     {"read-no-index", EXPORT(receive), &operational, &read_2000, 1},
     {"read-no-sub-index", EXPORT(receive), &operational, &read_1801_3, 1},
+    {"read-6200", EXPORT(receive), &operational, &read_6200, 1},
     {"read-blank", EXPORT(receive), &announced, &read_6004, 1},
     {"read-1008", EXPORT(receive), &operational, &read_1008, 1},
     {"read-segment", EXPORT(receive), &uploading, &segment, 1},
