@@ -36,6 +36,10 @@ IN_ORDER = (SCALING_ON, RANGE, STEP, SAMPLE, PRESET)
 READ_PRESET, READ_POSITION, READ_OFFSET = ("read", 0x6003_00), ("read", 0x6004_00), ("read", 0x6509_00)
 TAPE, DEFAULT_PRESET = ("sample", 20_000), ("write", 0x6003_00, 4, 0)
 FACTORY_RANGE = ("write", 0x6002_00, 4, 1_048_576)
+# Scaling and direction
+BOTH_OFF, DIRECTION_ON, BOTH_ON = (("write", 0x6000_00, 2, control) for control in (0x0000, 0x0008, 0x000C))
+# A step of 1 mm
+COARSE_STEP = ("write", 0x6005_01, 4, 1_000_000)
 
 # Steps for the sentences about position frames: the tape is at 100, and moves or is lost while a frame waits
 TPDO1, TPDO2 = 0x180, 0x280
@@ -264,7 +268,20 @@ def sentences(node):
         "6200 is 1800sub5 under a second index: a write of one changes both.": [
             ((("write", 0x6200_00, 2, 7), ("read", 0x1800_05)), 7),
             ((("write", 0x1800_05, 2, 7), ("read", 0x6200_00)), 7)],
+        "While scaling is on, the count of steps of 6005sub1 is rounded to the nearest whole number, halves upward, "
+        "before 6002, the direction and the preset apply.": [
+            *((counted(SCALING_ON, STEP, raw=raw), due) for raw, due in ((1, 1), (6, 3), (7, 4), (1_048_575, 524_288))),
+            *((counted(SCALING_ON, COARSE_STEP, raw=raw), due) for raw, due in ((99, 0), (100, 1), (101, 1), (299, 1), (300, 2), (1_048_575, 5_243))),
+            *((counted(SCALING_ON, RANGE, STEP, raw=raw), due) for raw, due in ((1_998, 999), (1_999, 0), (2_001, 1))),
+            *((counted(BOTH_ON, RANGE, STEP, raw=raw), due) for raw, due in ((1, 998), (1_998, 0), (1_999, 999))),
+            ((SCALING_ON, RANGE, STEP, ("sample", 1_999), PRESET, READ_OFFSET), 40),
+            *((counted(SCALING_ON, STEP, control, raw=7), due) for control, due in ((DIRECTION_ON, 1_048_568), (BOTH_OFF, 7)))],
     }
+
+
+def counted(*steps, raw):
+    """The trial that takes the steps and then reads the position of a raw one."""
+    return (*steps, ("sample", raw), READ_POSITION)
 
 
 def facts(comments, head, node):

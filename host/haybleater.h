@@ -233,7 +233,10 @@ HAYBLEATER_CALL uint8_t haybleater_state(const haybleater_head *head);
 /* Whether the present reading is good: the last sample that was not refused was a raw position. */
 HAYBLEATER_CALL bool haybleater_good(const haybleater_head *head);
 
-/* The position that entry 6004h shows: known exactly while the reading is good. */
+/*
+ * The position that entry 6004h shows: known exactly while the reading is good. With scaling on, the raw position is rounded
+ * to the nearest step of 6005-1, halves upward.
+ */
 HAYBLEATER_CALL haybleater_located haybleater_position(const haybleater_head *head);
 
 /* Whether a frame waits: whether the next slot answers one. */

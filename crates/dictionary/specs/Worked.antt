@@ -255,8 +255,8 @@ pub record Worked : Type 0 where
   pub p7 : Reads (at 69637) 0x6004 0 (Number 69637)
   -- inverted, r = 0, scaling off
   pub p8 : Reads (written (at 0) 0x6000_00 8) 0x6004 0 (Number 1048575)
-  -- scaling on, 6005h = 10,000: r = 6 and 7 both give 3
-  pub p9 : Reads (coarse 6) 0x6004 0 (Number 3) × Reads (coarse 7) 0x6004 0 (Number 3)
+  -- scaling on, 6005h = 10,000: P9 gives 3 and 4 (4/13)
+  pub p9 : Reads (coarse 6) 0x6004 0 (Number 3) × Reads (coarse 7) 0x6004 0 (Number 4)
   -- r = 100, preset 40: 6509h is −60, `C4 FF FF FF`; then r = 50 reads 1,048,566
   pub p10 : Reads preset 0x6509 0 (Number 0xFFFFFFC4) × Reads (movedTo 50 preset) 0x6004 0 (Number 1048566)
   -- read 1801-3

@@ -1,5 +1,5 @@
 -- Proves the laws of specs/Laws.antt. Assumes nothing.
-use Prim.Native.Nat.{ℕ, _+_, _*_, _/_, _%_, _≤_, _<_}
+use Prim.Native.Nat.{ℕ, _+_, _*_, _/_, _%_, _<_}
 use native.Mathlib.Nat.{mod-lt, mod-eq-of-lt, mod-add-div'}
 use native.Mathlib.Omega.{arith}
 use lib.IntN.{ℤ, pos, _+ℤ_, _-ℤ_, +ℤ-comm, +ℤ-idr, -ℤ-+ℤ-cancel}
@@ -12,18 +12,11 @@ use Rattle.position.specs.Laws.{Agrees, Positions, Presets, Laws}
 use Rattle.position.proofs.Whole.{difference-below}
 use Rattle.position.proofs.Modulo.{mod-below, mod-multiple, mod-more}
 use Rattle.position.proofs.Bits.{set, clear, bits, ranges}
+use Rattle.position.proofs.Rounding.{Near, divided, nearest, nearest-only, rounded, rounded-only}
 use Rattle.position.proofs.Direction.{directed-below, mirrors}
 
--- a number divided, rounded down
-rounded-down : (n t : ℕ) → 0 < t → (n / t * t ≤ n) × (n < (n / t + 1) * t)
-rounded-down n t h =
-    let e : n % t + n / t * t ≡ n = mod-add-div' n t in
-    let l : n % t < t = mod-lt n h in
-    (omega arith, omega arith)
-
-scaled : (p : Profile) (r : ℕ) → 0 < p .step → bit scalingBit (p .operating) ≡ true
-    → (scaledCount p r * p .step ≤ r * 5000) × (r * 5000 < (scaledCount p r + 1) * p .step)
-scaled p r h e = rw e (rounded-down (r * 5000) (p .step) h)
+near : (p : Profile) (r : ℕ) → 0 < p .step → bit scalingBit (p .operating) ≡ true → Near (r * 5000) (p .step) (scaledCount p r)
+near p r h e = rw e (divided (r * 5000) (p .step) _ h (omega arith))
 
 inverted : (p : Profile) (r : ℕ) → 0 < p .range → bit directionBit (p .operating) ≡ true → directed p r + count p r + 1 ≡ p .range
 inverted p r h e = let l = mod-lt (scaledCount p r) h in rw e (omega arith)
@@ -43,9 +36,16 @@ plain p r h e =
 positions : (p : Profile) (r : ℕ) → ValidProfile p → Positions p r
 positions p r v =
     let h : 0 < p .range = omega arith in
+    let n = r * 5000 in
+    let m = p .step in
+    let s = scaledCount p r in
+    let its-near : p .operating / 4 % 2 ≡ 1 → Near n m s = λ e. near p r (omega arith) (set scalingBit (p .operating) e) in
     record {
       unscaled = λ e. rw (clear scalingBit (p .operating) e);
-      scaled = λ e. scaled p r (omega arith) (set scalingBit (p .operating) e);
+      scaled = λ e. nearest n m s (its-near e);
+      rounded = λ e. rounded n m s (its-near e);
+      nearest-only = λ e k. nearest-only n m s k (nearest n m s (its-near e));
+      rounded-only = λ e k. rounded-only n m s k (its-near e);
       count-below = mod-lt (scaledCount p r) h;
       counted = (scaledCount p r / p .range, sym (mod-add-div' (scaledCount p r) (p .range)));
       straight = λ e. rw (clear directionBit (p .operating) e);

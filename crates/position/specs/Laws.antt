@@ -1,5 +1,5 @@
 -- Laws for every valid profile and every raw count: the position, the direction, the preset; and which profiles are valid.
--- 01, chapter "Position", in plain numbers: bit 2 of v is v / 4 % 2, bit 3 is v / 8 % 2.
+-- 01, chapter "Position", and change request 4/13, in plain numbers: bit 2 of v is v / 4 % 2, bit 3 is v / 8 % 2.
 use Prim.Native.Nat.{ℕ, _+_, _*_, _-_, _/_, _%_, _≤_, _<_, _^_}
 use lib.Dec.{eqb}
 use lib.IntN.{ℤ, pos, _+ℤ_, _*ℤ_, natAbs}
@@ -33,6 +33,20 @@ pub record Ranges : Type 0 where
       × (p .step ≤ 1000000)
       × (natAbs (p .offset) < p .range))
 
+-- How far apart two numbers are.
+abbrev pub apart : ℕ → ℕ → ℕ
+apart a b = (a - b) + (b - a)
+
+-- s is the nearest whole number to n / m, halves upward: no whole number k is nearer, and of two that are as near s is the upper one.
+pub record Nearest (n m s : ℕ) : Type 0 where
+  pub nearest : (k : ℕ) → apart (s * m) n ≤ apart (k * m) n
+  pub upper : (k : ℕ) → apart (k * m) n ≡ apart (s * m) n → k ≤ s
+
+-- The same by half steps: |2 m s − 2 n| ≤ m, and a half goes upward.
+pub record Rounded (n m s : ℕ) : Type 0 where
+  pub half-a-step : apart (2 * m * s) (2 * n) ≤ m
+  pub upward : (k : ℕ) → 2 * n ≡ 2 * m * k + m → s ≡ k + 1
+
 -- n differs from d + offset by a multiple of T
 abbrev pub Agrees : Profile → ℕ → ℕ → Type 0
 Agrees p r n = (k : ℤ) × (pos n ≡ pos (directed p r) +ℤ p .offset +ℤ k *ℤ pos (p .range))
@@ -40,8 +54,13 @@ Agrees p r n = (k : ℤ) × (pos n ≡ pos (directed p r) +ℤ p .offset +ℤ k 
 pub record Positions (p : Profile) (r : ℕ) : Type 0 where
   -- Scaling off: s = r;
   pub unscaled : p .operating / 4 % 2 ≡ 0 → scaledCount p r ≡ r
-  -- on: s is the greatest number of 6005h steps in r × 5,000
-  pub scaled : p .operating / 4 % 2 ≡ 1 → (scaledCount p r * p .step ≤ r * 5000) × (r * 5000 < (scaledCount p r + 1) * p .step)
+  -- on: s is the nearest whole number, halves upward, to r × 5,000 divided by 6005h,
+  pub scaled : p .operating / 4 % 2 ≡ 1 → Nearest (r * 5000) (p .step) (scaledCount p r)
+  -- at most half a step away,
+  pub rounded : p .operating / 4 % 2 ≡ 1 → Rounded (r * 5000) (p .step) (scaledCount p r)
+  -- and the only such number
+  pub nearest-only : p .operating / 4 % 2 ≡ 1 → (s : ℕ) → Nearest (r * 5000) (p .step) s → s ≡ scaledCount p r
+  pub rounded-only : p .operating / 4 % 2 ≡ 1 → (s : ℕ) → Rounded (r * 5000) (p .step) s → s ≡ scaledCount p r
   -- c is below T, and is s minus a multiple of T
   pub count-below : count p r < p .range
   pub counted : (k : ℕ) × (scaledCount p r ≡ count p r + k * p .range)

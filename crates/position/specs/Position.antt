@@ -1,6 +1,6 @@
 -- The position for a raw count, and what a preset does to the profile.
--- 01, chapter "Position", sentence by sentence: s, c, d, the position, the preset.
-use Prim.Native.Nat.{ℕ, suc, _-_, _*_, _/_, _%_, _^_}
+-- 01, chapter "Position", sentence by sentence: s (rounded as change request 4/13 says), c, d, the position, the preset.
+use Prim.Native.Nat.{ℕ, suc, _+_, _-_, _*_, _/_, _%_, _^_}
 use lib.Dec.{eqb}
 use lib.IntN.{ℤ, pos, negsuc, _+ℤ_, _-ℤ_}
 use mathlib.Core.Bool.{Bool, cond}
@@ -21,11 +21,11 @@ directionBit = 3
 abbrev pub rawStep : ℕ
 rawStep = 5000
 
--- r × 5,000 divided by 6005h, rounded down.
+-- The nearest whole number to r × 5,000 / m, halves upward (4/13): r × 5,000 / m and one half, rounded down.
 abbrev pub measuringSteps : ℕ → ℕ → ℕ
-measuringSteps r step = r * rawStep / step
+measuringSteps r m = (2 * r * rawStep + m) / (2 * m)
 
--- Scaling off: s = r; on: s = r × 5,000 divided by 6005h, rounded down.
+-- Scaling off: s = r; on: s = r × 5,000 divided by 6005h, rounded to the nearest, halves upward.
 abbrev pub scaledCount : Profile → ℕ → ℕ
 scaledCount p r = cond (bit scalingBit (p .operating)) (measuringSteps r (p .step)) r
 

@@ -1,20 +1,23 @@
 -- Proves `ByEntries` of specs/ByEntries.antt.
-use Prim.Native.Nat.{ℕ, zero, suc, _-_, _≤_, _<_, zero-le}
-use native.Mathlib.Nat.{add-zero, sub-zero}
+use Prim.Native.Nat.{ℕ, zero, suc, _+_, _-_, _*_, _/_, _%_, _≤_, _<_, zero-le}
+use native.Mathlib.Nat.{add-zero, sub-zero, mod-eq-of-lt}
 use native.Mathlib.Omega.{arith}
-use lib.Dec.{ltb}
+use lib.Dec.{eqb, ltb}
 use lib.IntN.{ℤ, pos, negsuc, _+ℤ_, _-ℤ_, natAbs}
-use mathlib.Core.Path.{_≡_, refl, sym, ap, _∙_}
+use mathlib.Core.Path.{_≡_, refl, sym, ap, ap₂, subst, _∙_}
 use mathlib.Core.Bool.{Bool, true}
+use mathlib.Core.List.{List}
 use mathlib.Core.Option.{Option, some}
-use borrow.Author.Tests.{lt-ltb, le-ltb, ltb-true}
+use borrow.Author.Tests.{eqb-true, eqb-false, lt-ltb, le-ltb, ltb-true}
 use Rattle.cases.proofs.Cases.{test}
 use Rattle.can.specs.declared.Received.{Received}
 use Rattle.can.specs.Signed.{twos}
 use Rattle.position.specs.declared.Profile.{Profile}
 use Rattle.position.specs.Position as formula
 use Rattle.position.specs.Profile.{ValidProfile}
+use Rattle.position.specs.Laws.{apart, Rounded}
 use Rattle.position.proofs.Whole.{minus-sum}
+use Rattle.position.proofs.Rounding.{count-below}
 use Rattle.position.proofs.Laws.{laws as position-laws}
 use Rattle.entries.specs.declared.Device.{Device}
 use Rattle.entries.specs.declared.Reading.{Reading}
@@ -31,14 +34,16 @@ use Rattle.dictionary.specs.Effects.{effects, anew}
 use Rattle.sdo.specs.Request.{indexOf, subOf, reading}
 use Rattle.parts.specs.declared.Head.{Head}
 use Rattle.parts.specs.declared.Sensor.{Sensor}
+use Rattle.parts.specs.declared.Sensor.the-variants.{Missing, Raw}
 use Rattle.promises.specs.States.{operational, isIn}
-use Rattle.promises.specs.Calls.{receive, step}
+use Rattle.promises.specs.Calls.{Call, receive, step}
 use Rattle.promises.specs.Meant.{dueTo, Writes}
-use Rattle.promises.specs.Histories.{after, powered, Reachable}
-use Rattle.promises.specs.Readings.{readsIn, profileOf, shownPosition, readingOf, dueShown}
-use Rattle.promises.specs.ByEntries.{Scale, ReadsScale, directedBy, positionBy, offsetBy, ByEntries}
+use Rattle.promises.specs.Valid.{Valid}
+use Rattle.promises.specs.Histories.{after, PowerUp, powered, Reachable}
+use Rattle.promises.specs.Readings.{readsIn, profileOf, shownPosition, lastSample, readingOf, dueShown}
+use Rattle.promises.specs.ByEntries.{Scale, ReadsScale, ScaledCount, directedBy, positionBy, offsetBy, ByEntries}
 use Rattle.promises.specs.Parameters.{Reads}
-use Rattle.promises.proofs.Histories.{valid-powered, valid-after}
+use Rattle.promises.proofs.Histories.{valid-powered, valid-after, valid-reachable}
 use Rattle.promises.proofs.Readings.{read-due, tells}
 use Rattle.promises.proofs.Effects.{served-rightly}
 use Rattle.promises.proofs.Parameters.{parameters-read}
@@ -95,7 +100,7 @@ scale-is h x e =
 -- the position, by the sign of the offset
 module _ (p : Profile) (v : ValidProfile p) (r : ℕ) where
   by-sign : (z : ℤ) → natAbs z < p .range
-      → positionBy (record { operating = p .operating; range = p .range; step = p .step; offset = twos z }) r
+      → positionBy (record { operating = p .operating; range = p .range; step = p .step; offset = twos z }) (formula.scaledCount p r)
       ≡ formula.modℤ (pos (formula.directed p r) +ℤ z) (p .range)
   by-sign (pos n) l = rw (lt-ltb n 0x80000000 (omega (arith, l, v .high)))
   by-sign (negsuc n) l =
@@ -103,8 +108,43 @@ module _ (p : Profile) (v : ValidProfile p) (r : ℕ) where
       let back : 0x100000000 - (0xFFFFFFFF - n) ≡ suc n = omega (arith, l, v .high) in
       rw (le-ltb (0xFFFFFFFF - n) 0x80000000 high, back) (minus-sum (negsuc n) (formula.directed p r) (p .range) refl l)
 
-  position-by : positionBy (scaleOf p) r ≡ formula.position p r
+  position-by : positionBy (scaleOf p) (formula.scaledCount p r) ≡ formula.position p r
   position-by = by-sign (p .offset) (v .offset)
+
+  -- the scaled count is one that the entries and the raw number give, and the only one
+  its-count : ScaledCount (scaleOf p) r (formula.scaledCount p r)
+  its-count =
+      let its = position-laws .positions p r v in
+      record { off = its .unscaled; on = its .scaled }
+
+  only-count : (s : ℕ) → ScaledCount (scaleOf p) r s → s ≡ formula.scaledCount p r
+  only-count s c =
+      let its = position-laws .positions p r v in
+      let b = p .operating / 4 % 2 in
+      test (eqb b 1)
+      (λ e. let on = eqb-true b 1 e in its .nearest-only on s (c .on on))
+      (λ e. let off : b ≡ 0 = omega (arith, eqb-false b 1 e) in c .off off ∙ sym (its .unscaled off))
+
+-- the same of what the entries of a head read
+module _ (h : Head) (v : Valid h) (x : Scale) (e : ReadsScale h x) (r : ℕ) where
+  abbrev count : ℕ
+  count = formula.scaledCount (profileOf h) r
+
+  count-read : ScaledCount x r count
+  count-read = subst (λ (y : Scale). ScaledCount y r count) (sym (scale-is h x e)) (its-count (profileOf h) (v .device .settings .profile) r)
+
+  only-read : (s : ℕ) → ScaledCount x r s → s ≡ count
+  only-read s c =
+      only-count (profileOf h) (v .device .settings .profile) r s (subst (λ (y : Scale). ScaledCount y r s) (scale-is h x e) c)
+
+  rounded-read : x .operating / 4 % 2 ≡ 1 → Rounded (r * 5000) (x .step) count
+  rounded-read =
+      subst (λ (y : Scale). y .operating / 4 % 2 ≡ 1 → Rounded (r * 5000) (y .step) count) (sym (scale-is h x e))
+      (position-laws .positions (profileOf h) r (v .device .settings .profile) .rounded)
+
+-- with direction 0 and no offset the position is the count, while that is below T
+plain : (x : Scale) (s : ℕ) → x .operating ≡ 4 → x .offset ≡ 0 → s < x .range → positionBy x s ≡ s
+plain x s o z l = rw (o, z, mod-eq-of-lt l, add-zero s, mod-eq-of-lt l)
 
 -- v − d, as 6509h reads it
 offset-by : (v d : ℕ) → d ≤ 0x100000000 → twos (pos v -ℤ pos d) ≡ offsetBy v d
@@ -126,28 +166,46 @@ module _ (h : Head) (x : Reachable h) (f : Received) (k v : ℕ) (w : Writes h f
   both-written : Anew 0x6003 0 (profileOf h .preset) × Anew 0x6509 0 (twos (profileOf h .offset))
   both-written = (written 0x6003 0 (parameters-read h .preset), written 0x6509 0 (parameters-read h .offset))
 
+position-is : (p : PowerUp) (cs : List Call) → let h = after (powered p) cs in (x : Scale) → ReadsScale h x → (r s : ℕ)
+    → lastSample Missing cs ≡ Raw r → ScaledCount x r s → Reads h 0x6004 0 (positionBy x s)
+position-is p cs x e r s q c =
+    let h = after (powered p) cs in
+    let v = valid-after (powered p) cs (valid-powered p) in
+    tells p cs .position
+    ∙ ap (λ (t : Sensor). some (shownPosition (profileOf h) t)) q
+    ∙ ap (λ n. some (Number n)) (sym (position-by (profileOf h) (v .device .settings .profile) r))
+    ∙ ap₂ (λ (y : Scale) (n : ℕ). some (Number (positionBy y n))) (sym (scale-is h x e)) (sym (only-read h v x e r s c))
+
+half-a-step : (p : PowerUp) (cs : List Call) → let h = after (powered p) cs in (x : Scale) → ReadsScale h x → (r n : ℕ)
+    → lastSample Missing cs ≡ Raw r → x .operating ≡ 4 → x .offset ≡ 0 → 2 * (r * 5000) + x .step < 2 * (x .range * x .step)
+    → Reads h 0x6004 0 n → apart (2 * (n * x .step)) (2 * (r * 5000)) ≤ x .step
+half-a-step p cs x e r n q o z l w =
+    let h = after (powered p) cs in
+    let v = valid-after (powered p) cs (valid-powered p) in
+    let s = count h v x e r in
+    let a : Rounded (r * 5000) (x .step) s = rounded-read h v x e r (rw o refl) in
+    let i : n ≡ s =
+    same (readsIn h 0x6004 0) w (position-is p cs x e r s q (count-read h v x e r)) ∙ plain x s o z (count-below (r * 5000) (x .step) (x .range) s a l) in
+    rw i (omega (arith, a .half-a-step))
+
 pub by-entries : ByEntries
 by-entries =
     record {
       asked = asked;
-      position = λ p cs x e r s.
-          let h = after (powered p) cs in
-          let v = valid-after (powered p) cs (valid-powered p) in
-          tells p cs .position
-          ∙ ap (λ (t : Sensor). some (shownPosition (profileOf h) t)) s
-          ∙ ap (λ n. some (Number n)) (sym (position-by (profileOf h) (v .device .settings .profile) r))
-          ∙ ap (λ (y : Scale). some (Number (positionBy y r))) (sym (scale-is h x e));
-      presets = λ p cs x e r s f v w.
+      scaled-count = λ h a x e r. let v = valid-reachable h a in (count h v x e r, count-read h v x e r, only-read h v x e r);
+      position = position-is;
+      half-a-step = half-a-step;
+      presets = λ p cs x e r s q c f v w.
           let h = after (powered p) cs in
           let valid = valid-after (powered p) cs (valid-powered p) in
-          let q = profileOf h in
+          let o = profileOf h in
           let raw = h .core .device .reading .raw in
-          let its-raw : raw ≡ r = ap (λ (t : Reading). t .raw) (tells p cs .reading-is ∙ ap readingOf s) in
-          let below = position-laws .positions q raw (valid .device .settings .profile) .directed-below in
+          let its-raw : raw ≡ r = ap (λ (t : Reading). t .raw) (tells p cs .reading-is ∙ ap readingOf q) in
+          let below = position-laws .positions o raw (valid .device .settings .profile) .directed-below in
           written h (record { start = p; calls = cs; so = refl }) f 0x6003_00 v w 0x6509 0 (parameters-read h .offset)
-          ∙ ap (λ n. some (Number n)) (offset-by v (formula.directed q raw) (omega (arith, below, valid .device .settings .profile .high)))
-          ∙ ap (λ n. some (Number (offsetBy v (formula.directed q n)))) its-raw
-          ∙ ap (λ (y : Scale). some (Number (offsetBy v (directedBy y r)))) (sym (scale-is h x e));
+          ∙ ap (λ n. some (Number n)) (offset-by v (formula.directed o raw) (omega (arith, below, valid .device .settings .profile .high)))
+          ∙ ap (λ n. some (Number (offsetBy v (formula.directed o n)))) its-raw
+          ∙ ap₂ (λ (y : Scale) (n : ℕ). some (Number (offsetBy v (directedBy y n)))) (sym (scale-is h x e)) (sym (only-read h valid x e r s c));
       rescales = λ h x f v. (both-written h x f 0x6000_00 v, (both-written h x f 0x6002_00 v, (both-written h x f 0x6005_01 v, tt)));
       ranges = λ h x f v w. written h x f 0x6000_00 v w 0x6002 0 (parameters-read h .range);
     }

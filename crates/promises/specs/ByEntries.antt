@@ -1,12 +1,13 @@
 -- What a head does follows from what its entries read: the position, and what an accepted write makes of 6000h to 6509h, in plain numbers.
--- 01, chapters "Entries" and "Position".
-use Prim.Native.Nat.{ℕ, _+_, _-_, _*_, _/_, _%_}
+-- 01, chapters "Entries" and "Position", and change request 4/13.
+use Prim.Native.Nat.{ℕ, _+_, _-_, _*_, _/_, _%_, _≤_, _<_}
 use lib.Dec.{eqb, ltb}
 use mathlib.Core.Path.{_≡_}
 use mathlib.Core.Bool.{true, cond}
 use mathlib.Core.List.{List, [], _∷_}
 use mathlib.Core.Option.{some}
 use Rattle.can.specs.declared.Received.{Received}
+use Rattle.position.specs.Laws.{apart, Nearest}
 use Rattle.entries.specs.declared.table.Row.{Row}
 use Rattle.entries.specs.Table.{width}
 use Rattle.entries.specs.Laws.{Stands}
@@ -34,18 +35,19 @@ pub record ReadsScale (h : Head) (x : Scale) : Type 0 where
   pub step : Reads h 0x6005 1 (x .step)
   pub offset : Reads h 0x6509 0 (x .offset)
 
--- Raw r counts 5,000 nm steps. Scaling (6000h bit 2) off: s = r; on: s = r × 5,000 divided by 6005h, rounded down.
-abbrev pub scaledBy : Scale → ℕ → ℕ
-scaledBy x r = cond (eqb (x .operating / 4 % 2) 1) (r * 5000 / x .step) r
+-- Raw r counts 5,000 nm steps. Scaling (6000h bit 2) off: s = r; on: s is the nearest whole number, halves upward, to r × 5,000 divided by 6005h.
+pub record ScaledCount (x : Scale) (r s : ℕ) : Type 0 where
+  pub off : x .operating / 4 % 2 ≡ 0 → s ≡ r
+  pub on : x .operating / 4 % 2 ≡ 1 → Nearest (r * 5000) (x .step) s
 
 -- T is 6002h. c = s mod T. Direction (bit 3 ..) 0: d = c; 1: d = T − 1 − c.
 abbrev pub directedBy : Scale → ℕ → ℕ
-directedBy x r = let c = scaledBy x r % x .range in cond (eqb (x .operating / 8 % 2) 1) (x .range - 1 - c) c
+directedBy x s = let c = s % x .range in cond (eqb (x .operating / 8 % 2) 1) (x .range - 1 - c) c
 
 -- Position = (d + offset) mod T, never negative. 6509h is signed: from 8000 0000h on it is 2^32 less.
 abbrev pub positionBy : Scale → ℕ → ℕ
-positionBy x r =
-    let d = directedBy x r in
+positionBy x s =
+    let d = directedBy x s in
     cond (ltb (x .offset) 0x80000000) ((d + x .offset) % x .range) ((d + (x .range - (0x100000000 - x .offset))) % x .range)
 
 -- p − d, as 6509h reads it
@@ -56,13 +58,21 @@ pub record ByEntries : Type 0 where
   -- A read gets what the entry reads, in its bytes; 7. of a blank 0800 0024h.
   pub asked : (h : Head) (f : Received) (s : Shown) → let i = indexOf (f .bytes) in let j = subOf (f .bytes) in
       reading (f .bytes) ≡ true → readsIn h i j ≡ some s → (r : Row) × Stands r i j × (dueTo h f ≡ dueShown (width r) s)
-  -- 6004-0 is the position, computed from the other entries and the last sample
-  pub position : (p : PowerUp) (cs : List Call) → let h = after (powered p) cs in (x : Scale) → ReadsScale h x → (r : ℕ)
-      → lastSample Missing cs ≡ Raw r → Reads h 0x6004 0 (positionBy x r)
+  -- The entries and a raw number give one scaled count, and no other,
+  pub scaled-count : (h : Head) → Reachable h → (x : Scale) → ReadsScale h x → (r : ℕ)
+      → (s : ℕ) × ScaledCount x r s × ((n : ℕ) → ScaledCount x r n → n ≡ s)
+  -- and 6004-0 is the position, computed from it and the other entries
+  pub position : (p : PowerUp) (cs : List Call) → let h = after (powered p) cs in (x : Scale) → ReadsScale h x → (r s : ℕ)
+      → lastSample Missing cs ≡ Raw r → ScaledCount x r s → Reads h 0x6004 0 (positionBy x s)
+  -- A chart against a laser: with direction 0 and no offset, 6004h steps of 6005h are at most half a step away from r × 5,000 nm, up to the
+  -- last half step before T.
+  pub half-a-step : (p : PowerUp) (cs : List Call) → let h = after (powered p) cs in (x : Scale) → ReadsScale h x → (r n : ℕ)
+      → lastSample Missing cs ≡ Raw r → x .operating ≡ 4 → x .offset ≡ 0 → 2 * (r * 5000) + x .step < 2 * (x .range * x .step)
+      → Reads h 0x6004 0 n → apart (2 * (n * x .step)) (2 * (r * 5000)) ≤ x .step
   -- Accepted 6003h = p: offset becomes p − d at the present sample.
-  pub presets : (p : PowerUp) (cs : List Call) → let h = after (powered p) cs in (x : Scale) → ReadsScale h x → (r : ℕ)
-      → lastSample Missing cs ≡ Raw r → (f : Received) (v : ℕ) → Writes h f 0x6003_00 v
-      → Reads (step h (receive f)) 0x6509 0 (offsetBy v (directedBy x r))
+  pub presets : (p : PowerUp) (cs : List Call) → let h = after (powered p) cs in (x : Scale) → ReadsScale h x → (r s : ℕ)
+      → lastSample Missing cs ≡ Raw r → ScaledCount x r s → (f : Received) (v : ℕ) → Writes h f 0x6003_00 v
+      → Reads (step h (receive f)) 0x6509 0 (offsetBy v (directedBy x s))
   -- Any accepted write of 6000h, 6002h or 6005h, also of an equal value, sets 6003h and the offset to 0;
   pub rescales : (h : Head) → Reachable h → (f : Received) (v : ℕ)
       → All (λ k. Writes h f k v → Reads (step h (receive f)) 0x6003 0 0 × Reads (step h (receive f)) 0x6509 0 0)

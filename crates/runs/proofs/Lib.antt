@@ -11,3 +11,4 @@ pub mod FullLine
 pub mod Busy
 pub mod Names
 pub mod SyncFrames
+pub mod Rounding

@@ -10,3 +10,4 @@ pub mod FullLine
 pub mod Busy
 pub mod Names
 pub mod SyncFrames
+pub mod Rounding

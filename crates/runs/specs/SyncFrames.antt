@@ -74,7 +74,7 @@ pub record FixedAtSync : Type 0 where
   pub direction : Send running (around (bytes 0x2B 0x00 0x60 0x00 0x08 0 0 0)) (shows2 7 ∷ written 0x00 0x60 0x00 ∷ shows2 1048568 ∷ [])
   pub preset : Send running (around (bytes 0x23 0x03 0x60 0x00 40 0 0 0)) (shows2 7 ∷ written 0x03 0x60 0x00 ∷ shows2 40 ∷ [])
   pub range : Send (scaled 2007) (around (bytes 0x23 0x02 0x60 0x00 0xE8 0x03 0 0)) (shows2 2007 ∷ written 0x02 0x60 0x00 ∷ shows2 7 ∷ [])
-  pub step : Send (scaled 7) (around (bytes 0x23 0x05 0x60 0x01 0x10 0x27 0 0)) (shows2 7 ∷ written 0x05 0x60 0x01 ∷ shows2 3 ∷ [])
+  pub step : Send (scaled 7) (around (bytes 0x23 0x05 0x60 0x01 0x10 0x27 0 0)) (shows2 7 ∷ written 0x05 0x60 0x01 ∷ shows2 4 ∷ [])
   -- Leaving Operational, entering Stopped, a reset and switching off take it back, also in a gap.
   pub taken-back : Leave (running ++ sync ∷ []) (command 0x80 ∷ []) ([] ∷ [])
       × Leave (running ++ sync ∷ []) (command 0x02 ∷ []) ([] ∷ [])

@@ -9,6 +9,7 @@ ghost use Rattle.runs.specs.Joining.{Joining};
 ghost use Rattle.runs.specs.Names.{Naming};
 ghost use Rattle.runs.specs.Readings.{Positioning};
 ghost use Rattle.runs.specs.Resets.{MetByLoad, MetBySave, Restoring};
+ghost use Rattle.runs.specs.Rounding.{Rounding};
 ghost use Rattle.runs.specs.Service.{Serving};
 ghost use Rattle.runs.specs.Starts.{StartsMet};
 ghost use Rattle.runs.specs.SyncFrames.{FixedAtSync};
@@ -17,6 +18,6 @@ ghost use Rattle.runs.specs.SyncFrames.{FixedAtSync};
 fn statements()
     ensures { λ _. ⌜
         FullLine × Busy × Joining × CodesMet × Serving × MetWhenReady × Positioning × Losing × MetBySave × MetByLoad
-        × Restoring × StartsMet × Naming × FixedAtSync
+        × Restoring × StartsMet × Naming × FixedAtSync × Rounding
         ⌝ }
 {}

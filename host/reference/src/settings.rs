@@ -110,15 +110,29 @@ impl Profile {
         self.operating & SCALING != 0
     }
 
+    /// The whole number of steps of 6005h that is nearest to the raw sample; a half goes upward.
+    fn scaled(&self, raw: u32) -> u32 {
+        let length = u64::from(raw) * u64::from(RAW_STEP);
+        let step = u64::from(self.step);
+        let (below, past) = (length / step, length % step);
+        let short_of_next = step - past;
+        let nearest = if past < short_of_next {
+            below
+        } else {
+            below + 1
+        };
+        // It fits 32 bits: no step is finer than a raw one, so the number is at most the raw one.
+        nearest as u32
+    }
+
     /// The position before the offset, below the range.
     fn directed(&self, raw: u32) -> u32 {
         let steps = if self.is_scaled() {
-            u64::from(raw) * u64::from(RAW_STEP) / u64::from(self.step)
+            self.scaled(raw)
         } else {
-            u64::from(raw)
+            raw
         };
-        // The steps fit 32 bits: the unit is never finer than the raw one.
-        let counted = steps as u32 % self.range;
+        let counted = steps % self.range;
         if self.operating & INVERTED == 0 {
             counted
         } else {

@@ -1,22 +1,7 @@
 //! Scaling, direction, preset.
 
 mod common;
-use common::{Bench, OFF};
-
-fn scaled(operating: u32, step: u32, range: u32) -> Bench {
-    let mut bench = Bench::pre_operational();
-    bench.set(0x6000, 0, operating);
-    bench.set(0x6005, 1, step);
-    bench.set(0x6002, 0, range);
-    bench
-}
-
-fn position(bench: &mut Bench, raw: u32) -> u32 {
-    bench.sample(raw);
-    let shown = bench.head.position();
-    assert_eq!(bench.read(0x6004, 0).ok(), shown);
-    shown.expect("a good reading")
-}
+use common::{position, scaled, Bench, OFF};
 
 #[test]
 fn raw_by_default() {
@@ -45,8 +30,9 @@ fn scaled_within_the_range() {
 fn inverted_within_the_range() {
     let mut bench = scaled(0xC, 10_000, 1_000);
     assert_eq!(position(&mut bench, 0), 999);
-    assert_eq!(position(&mut bench, 7), 996);
-    assert_eq!(position(&mut bench, 2_001), 999);
+    // 3.5 and 1,000.5 go upward: 999 - 4, 999 - 1
+    assert_eq!(position(&mut bench, 7), 995);
+    assert_eq!(position(&mut bench, 2_001), 998);
 }
 
 #[test]

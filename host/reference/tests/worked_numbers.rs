@@ -51,13 +51,13 @@ fn p8_inverted() {
 }
 
 #[test]
-fn p9_scaling_rounds_down() {
+fn p9_scaling_rounds_to_nearest() {
     let mut bench = Bench::pre_operational();
     bench.set(0x6000, 0, 0x4);
     bench.set(0x6005, 1, 10_000);
-    for raw in [6, 7] {
+    for (raw, position) in [(6, 3), (7, 4)] {
         bench.sample(raw);
-        assert_eq!(bench.read(0x6004, 0), Ok(3));
+        assert_eq!(bench.read(0x6004, 0), Ok(position));
     }
 }
 

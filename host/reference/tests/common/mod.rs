@@ -179,3 +179,20 @@ impl Bench {
         self.set(index, 1, held & !OFF);
     }
 }
+
+/// Pre-operational, with scaling on and these in 6000h, 6005h and 6002h.
+pub fn scaled(operating: u32, step: u32, range: u32) -> Bench {
+    let mut bench = Bench::pre_operational();
+    bench.set(0x6000, 0, operating);
+    bench.set(0x6005, 1, step);
+    bench.set(0x6002, 0, range);
+    bench
+}
+
+/// The position of a sample, as shown and as read.
+pub fn position(bench: &mut Bench, raw: u32) -> u32 {
+    bench.sample(raw);
+    let shown = bench.head.position();
+    assert_eq!(bench.read(0x6004, 0).ok(), shown);
+    shown.expect("a good reading")
+}

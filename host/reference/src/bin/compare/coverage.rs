@@ -8,6 +8,7 @@ use reference::{abort, refusal, Frame, Head, Identity, Kind, Received, State, Tr
 
 use crate::dictionary::{peek, ENTRIES, NAMES};
 use crate::fixed::{self, is_of_sync_type};
+use crate::rounding;
 
 /// Group, what, how.
 pub type Item = (&'static str, &'static str, &'static str);
@@ -198,7 +199,7 @@ pub struct Coverage {
 
 impl Coverage {
     pub fn new() -> Coverage {
-        let mut items: Vec<Item> = [&SINGLE[..], &fixed::ITEMS].concat();
+        let mut items: Vec<Item> = [&SINGLE[..], &fixed::ITEMS, &rounding::ITEMS].concat();
         for (_, state) in STATES {
             items.extend([("state", state, ""), ("request", "in state", state)]);
         }
@@ -258,6 +259,9 @@ impl Coverage {
         }
         self.observe_line(before, call, after);
         self.observe_transfer(before, call, after);
+        for item in rounding::items(before, call, after) {
+            self.count(item);
+        }
     }
 
     fn observe_names(&mut self, identity: &Identity, number: u8) {
@@ -555,7 +559,7 @@ fn cause_in(transfer: &Transfer, request: &Received) -> &'static str {
     }
 }
 
-fn joined(before: &Head, after: &Head, kind: Kind) -> bool {
+pub fn joined(before: &Head, after: &Head, kind: Kind) -> bool {
     !before.waits(kind) && after.waits(kind)
 }
 

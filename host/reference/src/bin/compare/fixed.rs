@@ -117,7 +117,7 @@ fn written(request: &Received) -> Option<&'static str> {
     }
 }
 
-fn is_sync(frame: &Received) -> bool {
+pub fn is_sync(frame: &Received) -> bool {
     let plain = !frame.extended && !frame.remote;
     plain && frame.identifier == 0x080 && frame.length <= 1
 }

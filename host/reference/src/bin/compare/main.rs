@@ -10,6 +10,7 @@ mod driver;
 mod fixed;
 mod generator;
 mod rng;
+mod rounding;
 mod run;
 mod scenarios;
 mod shrink;

@@ -6,7 +6,10 @@ use reference::{Head, Identity, Name, Received, State};
 use crate::dictionary::{data_frame, nmt, peek, read, request, Entry, ENTRIES, NAMES};
 use crate::generator::Generator;
 use crate::rng::Rng;
-use crate::values::{edge_value, valid_value};
+use crate::values::{
+    edge_value, sample_near_half, sample_near_range, some_step, valid_value, HIGHEST_SAMPLE,
+    WIDE_SAMPLES,
+};
 
 type Scenario = fn(&mut Generator, &Head);
 
@@ -32,6 +35,7 @@ const SCENARIOS: &[(u32, Scenario)] = &[
     (3, crowd),
     (5, fixed_frames),
     (6, scaling_setup),
+    (5, halves),
     (4, store),
     (6, malformed),
     (3, flood),
@@ -119,7 +123,7 @@ fn some_ticks(generator: &mut Generator, _: &Head) {
 
 fn good_sample(generator: &mut Generator) {
     let rng = &generator.rng;
-    let any = rng.between(0, 1_048_575);
+    let any = rng.between(0, HIGHEST_SAMPLE);
     let low = rng.between(0, 2_000);
     let raw = rng.pick(&[
         0, 1, 1_048_574, 1_048_575, 999_999, 1_000_000, low, any, any,
@@ -519,8 +523,7 @@ fn scaling_setup(generator: &mut Generator, head: &Head) {
     let node = head.node();
     let operating = generator.rng.pick(&[0x0, 0x4, 0x4, 0x8, 0xC, 0xC]);
     write_to(generator, node, (0x6000, 0), operating);
-    let step = generator.rng.between(5_000, 1_000_000);
-    let step = generator.rng.pick(&[5_000, 5_001, 10_000, 1_000_000, step]);
+    let step = some_step(&generator.rng);
     write_to(generator, node, (0x6005, 1), step);
     let range = generator.rng.between(1_000, 1_000_000);
     let range = generator
@@ -534,6 +537,70 @@ fn scaling_setup(generator: &mut Generator, head: &Head) {
     good_sample(generator);
     generator.frame(read(node, 0x6004, 0));
     generator.settle();
+}
+
+/// Samples at halves of the step and beside them, which are read, sent and preset.
+fn halves(generator: &mut Generator, head: &Head) {
+    let node = head.node();
+    generator.settle();
+    if generator.rng.chance(50) {
+        generator.frame(nmt(0x01, node));
+    }
+    let operating = generator.rng.pick(&[0x4, 0x4, 0xC]);
+    let step = some_step(&generator.rng);
+    let any = generator.rng.between(1_000, 1_000_000);
+    let range = generator.rng.pick(&[1_000, 1_001, 524_288, 1_000_000, any]);
+    let settings = [
+        ((0x6000, 0), operating),
+        ((0x6005, 1), step),
+        ((0x6002, 0), range),
+    ];
+    for (place, value) in settings {
+        write_to(generator, node, place, value);
+    }
+    for _ in 0..generator.rng.between(1, 6) {
+        let near_half = sample_near_half(&generator.rng, step);
+        let near_range = sample_near_range(&generator.rng, step, range);
+        let wide = generator.rng.pick(&WIDE_SAMPLES);
+        let raw = generator
+            .rng
+            .pick(&[near_half, near_half, near_range, wide]);
+        sample_beside(generator, raw);
+        show_position(generator, node, range);
+    }
+    if generator.rng.chance(20) {
+        write_to(generator, node, (0x6000, 0), operating & 0x8);
+        good_sample(generator);
+    }
+}
+
+/// The sample itself, mostly.
+fn sample_beside(generator: &mut Generator, raw: u32) {
+    let above = (raw + 1).min(HIGHEST_SAMPLE);
+    let beside = generator
+        .rng
+        .pick(&[raw, raw, raw, raw.saturating_sub(1), above]);
+    generator.call(Call::Sample(beside));
+}
+
+/// One of the ways in which a position is seen.
+fn show_position(generator: &mut Generator, node: u8, range: u32) {
+    let preset = generator.rng.between(0, range - 1);
+    let preset = generator.rng.pick(&[0, range - 1, preset]);
+    match generator.rng.between(0, 4) {
+        0 => {
+            write_to(generator, node, (0x6003, 0), preset);
+            generator.frame(read(node, 0x6509, 0));
+            generator.settle();
+        }
+        1 => {
+            generator.frame(read(node, 0x6004, 0));
+            generator.settle();
+        }
+        2 => generator.frame(data_frame(0x080, &[])),
+        3 => generator.ticks(3),
+        _ => generator.call(Call::Slot),
+    }
 }
 
 fn store(generator: &mut Generator, head: &Head) {

@@ -9,6 +9,12 @@ const SAVE: u32 = 0x6576_6173;
 const LOAD: u32 = 0x6461_6F6C;
 const OFF: u32 = 0x8000_0000;
 
+pub const HIGHEST_SAMPLE: u32 = 1_048_575;
+/// In nanometres.
+pub const RAW_STEP: u32 = 5_000;
+/// The last whose length, or twice its length, is below 2^32 nanometres, and the next.
+pub const WIDE_SAMPLES: [u32; 4] = [429_496, 429_497, 858_993, 858_994];
+
 pub fn valid_value(rng: &Rng, entry: &Entry, head: &Head) -> u32 {
     let node = u32::from(head.node());
     match (entry.index, entry.sub) {
@@ -23,7 +29,7 @@ pub fn valid_value(rng: &Rng, entry: &Entry, head: &Head) -> u32 {
         (0x6000, _) => rng.pick(&[0x0, 0x4, 0x8, 0xC]),
         (0x6002, _) => rng.pick(&[1_000, 1_000_000, rng.between(1_000, 1_000_000)]),
         (0x6003, _) => rng.pick(&[0, 1, 999, rng.between(0, 999_999)]),
-        (0x6005, _) => rng.pick(&[5_000, 10_000, 1_000_000, rng.between(5_000, 1_000_000)]),
+        (0x6005, _) => some_step(rng),
         _ => 0,
     }
 }
@@ -62,4 +68,45 @@ fn edge_pdo_identifier(rng: &Rng) -> u32 {
     let low = rng.pick(&[0, 0x80, 0x180, 0x181, 0x57F, 0x580, 0x601, 0x7FF]);
     let off = rng.pick(&[0, OFF]);
     rng.pick(&[low | off, low | off, low | off | high_bit, rng.word()])
+}
+
+/// For 6005h. A step has exact halves if 16 divides it.
+pub fn some_step(rng: &Rng) -> u32 {
+    let odd = 5_001 + 2 * rng.between(0, 50);
+    let with_halves = 16 * rng.between(313, 62_500);
+    let any = rng.between(5_000, 1_000_000);
+    rng.pick(&[
+        5_000,
+        5_001,
+        10_000,
+        20_000,
+        1_000_000,
+        odd,
+        with_halves,
+        any,
+        any,
+    ])
+}
+
+/// The sample that lies closest to a half of the step, among many.
+pub fn sample_near_half(rng: &Rng, step: u32) -> u32 {
+    let any = (0..600).map(|_| rng.between(0, HIGHEST_SAMPLE));
+    any.min_by_key(|raw| from_half(*raw, step)).unwrap_or(0)
+}
+
+/// Twice the nanometres from there to the half of the step that it lies in.
+fn from_half(raw: u32, step: u32) -> u64 {
+    let step = u64::from(step);
+    let past = u64::from(raw) * u64::from(RAW_STEP) % step;
+    (2 * past).abs_diff(step)
+}
+
+/// The first sample that is at most half a step below a multiple of the range.
+pub fn sample_near_range(rng: &Rng, step: u32, range: u32) -> u32 {
+    let whole = u64::from(step) * u64::from(range);
+    let tape = u64::from(HIGHEST_SAMPLE) * u64::from(RAW_STEP);
+    let times = rng.between(1, (tape / whole).max(1) as u32);
+    let twice = 2 * whole * u64::from(times) - u64::from(step);
+    let raw = twice.div_ceil(2 * u64::from(RAW_STEP));
+    raw.min(HIGHEST_SAMPLE.into()) as u32
 }
