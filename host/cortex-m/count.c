@@ -47,11 +47,13 @@ static const haybleater_received each_second = REQUEST(0x2B, 0x17, 0x10, 0, 0xE8
                                  tpdo1_each_tick = REQUEST(0x2B, 0x00, 0x18, 5, 1, 0, 0, 0),
                                  tpdo2_off = REQUEST(0x23, 0x01, 0x18, 1, 0x81, 0x02, 0, 0x80),
                                  tpdo2_each_second_sync = REQUEST(0x2F, 0x01, 0x18, 2, 2, 0, 0, 0),
-                                 tpdo2_on = REQUEST(0x23, 0x01, 0x18, 1, 0x81, 0x02, 0, 0);
+                                 tpdo2_on = REQUEST(0x23, 0x01, 0x18, 1, 0x81, 0x02, 0, 0),
+                                 scaling_on = REQUEST(0x2B, 0x00, 0x60, 0, 4, 0, 0, 0),
+                                 step_1_mm = REQUEST(0x23, 0x05, 0x60, 1, 0x40, 0x42, 0x0F, 0);
 
 /* The heads before the calls, as docs/BENCHMARKS.md has them. */
 static haybleater_head initialising, pre_operational, operational, busy, full, announced, with_pdos, synced, lost, asked, beating, started, uploading,
-                       ending, counting_syncs;
+                       ending, counting_syncs, scaled, started_scaled;
 static union {
     uint8_t byte;
     haybleater_outgoing outgoing;
@@ -80,6 +82,7 @@ static const struct {
     {"sync", EXPORT(receive), &operational, &sync, 1},
     {"sync-not-due", EXPORT(receive), &counting_syncs, &sync, 0},
     {"sync-full-line", EXPORT(receive), &full, &sync, 5},
+    {"sync-scaled", EXPORT(receive), &scaled, &sync, 1},
     {"nmt-present-state", EXPORT(receive), &operational, &start, 0},
     {"nmt-operational", EXPORT(receive), &pre_operational, &start, 1},
     {"nmt-stopped", EXPORT(receive), &full, &stop, 1},
@@ -87,6 +90,7 @@ static const struct {
     {"nmt-reset-node", EXPORT(receive), &operational, &reset_node, 1},
     {"nmt-reset-comm", EXPORT(receive), &operational, &reset_communication, 1},
     {"read-6004", EXPORT(receive), &operational, &read_6004, 1},
+    {"read-6004-scaled", EXPORT(receive), &scaled, &read_6004, 1},
     {"read-1000", EXPORT(receive), &operational, &read_1000, 1},
     {"read-1018-4", EXPORT(receive), &operational, &read_1018_4, 1},
     {"read-no-index", EXPORT(receive), &operational, &read_2000, 1},
@@ -108,11 +112,13 @@ static const struct {
     {"slot-reply", EXPORT(slot), &asked, &answer, 1},
     {"slot-heartbeat", EXPORT(slot), &beating, &answer, 1},
     {"slot-tpdo1", EXPORT(slot), &started, &answer, 1},
+    {"slot-tpdo1-scaled", EXPORT(slot), &started_scaled, &answer, 1},
     {"slot-tpdo2", EXPORT(slot), &synced, &answer, 1},
     {"slot-full-line", EXPORT(slot), &full, &answer, 5},
     {"state", EXPORT(state), &operational, &answer, 0},
     {"good", EXPORT(good), &operational, &answer, 0},
     {"position", EXPORT(position), &operational, &answer, 0},
+    {"position-scaled", EXPORT(position), &scaled, &answer, 0},
     {"waits", EXPORT(waits), &operational, &answer, 0},
     {"goes-if-missing", EXPORT(goes_if_missing), &started, &answer, 1},
 };
@@ -150,6 +156,8 @@ static void prepare(void)
     started = heard(pre_operational, start);
     beating = ticked(sent(heard(pre_operational, each_tick)));
     operational = sent(heard(sent(heard(pre_operational, each_second)), start));
+    scaled = sent(heard(sent(heard(operational, scaling_on)), step_1_mm));
+    started_scaled = heard(sent(heard(sent(heard(pre_operational, scaling_on)), step_1_mm)), start);
     synced = heard(operational, sync);
     counting_syncs = sent(heard(sent(heard(sent(heard(operational, tpdo2_off)), tpdo2_each_second_sync)), tpdo2_on));
     asked = heard(operational, read_6004);

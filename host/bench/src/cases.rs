@@ -139,6 +139,12 @@ fn each_second_sync() -> Vec<Call> {
     then(operational(), [off, Slot, second, Slot, on, Slot])
 }
 
+/// The same with scaling on and a step of 1 mm.
+fn scaled(before: Vec<Call>) -> Vec<Call> {
+    let (scaling, step) = (write_2(0x6000, 0, 4), write_4(0x6005, 1, 1_000_000));
+    then(before, [scaling, Call::Slot, step, Call::Slot])
+}
+
 /// As `operational`, but a heartbeat and TPDO1 at each tick.
 fn busy() -> Vec<Call> {
     let (heartbeat, tpdo1) = (write_2(0x1017, 0, 1), write_2(0x1800, 5, 1));
@@ -224,12 +230,14 @@ fn samples() -> Vec<Case> {
 }
 
 fn frames() -> Vec<Case> {
+    let coarse = "281 4 5C 01 00 00";
     let foreign = data(0x123, [1, 2, 3, 4, 5, 6, 7, 8]);
     vec![
         case("foreign-frame", operational(), foreign, ""),
         case("sync", operational(), sync(), TPDO2),
         case("sync-not-due", each_second_sync(), sync(), ""),
         case("sync-full-line", full(), sync(), ALL_FIVE),
+        case("sync-scaled", scaled(operational()), sync(), coarse),
         case("nmt-present-state", operational(), start(), ""),
     ]
 }
@@ -252,6 +260,7 @@ fn reads() -> Vec<Case> {
     let asked = |name, index, sub, reply| case(name, operational(), read(index, sub), reply);
     let uploading = then(operational(), [read(0x1008, 0), Call::Slot]);
     let ending = then(uploading.clone(), [segment(0), Call::Slot]);
+    let coarse = "581 8 43 04 60 00 5C 01 00 00";
     let no_index = "581 8 80 00 20 00 00 00 02 06";
     let no_sub_index = "581 8 80 01 18 03 11 00 09 06";
     let blank = "581 8 80 04 60 00 24 00 00 08";
@@ -259,6 +268,12 @@ fn reads() -> Vec<Case> {
     let last = "581 8 19 74 65 72 00 00 00 00";
     vec![
         asked("read-6004", 0x6004, 0, "581 8 43 04 60 00 05 10 01 00"),
+        case(
+            "read-6004-scaled",
+            scaled(operational()),
+            read(0x6004, 0),
+            coarse,
+        ),
         asked("read-1000", 0x1000, 0, "581 8 43 00 10 00 96 01 08 00"),
         asked("read-1018-4", 0x1018, 4, "581 8 43 18 10 04 04 00 00 00"),
         asked("read-no-index", 0x2000, 0, no_index),
@@ -296,6 +311,7 @@ fn slots() -> Vec<Case> {
     let each_tick = [write_2(0x1017, 0, 1), Call::Slot, Call::Tick];
     let heartbeat = then(pre_operational(), each_tick);
     let tpdo1 = then(pre_operational(), [start()]);
+    let coarse = then(scaled(pre_operational()), [start()]);
     let tpdo2 = then(operational(), [sync()]);
     vec![
         slot("slot-none", operational(), ""),
@@ -304,6 +320,7 @@ fn slots() -> Vec<Case> {
         slot("slot-reply", reply, "581 8 43 04 60 00 05 10 01 00"),
         slot("slot-heartbeat", heartbeat, "701 1 7F"),
         slot("slot-tpdo1", tpdo1, TPDO1),
+        slot("slot-tpdo1-scaled", coarse, "181 4 5C 01 00 00"),
         slot("slot-tpdo2", tpdo2, TPDO2),
         slot("slot-full-line", full(), ALL_FIVE),
     ]
