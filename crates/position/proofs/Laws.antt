@@ -44,6 +44,7 @@ positions p r v =
       unscaled = λ e. rw (clear scalingBit (p .operating) e);
       scaled = λ e. nearest n m s (its-near e);
       rounded = λ e. rounded n m s (its-near e);
+      by-halves = its-near;
       nearest-only = λ e k. nearest-only n m s k (nearest n m s (its-near e));
       rounded-only = λ e k. rounded-only n m s k (its-near e);
       count-below = mod-lt (scaledCount p r) h;

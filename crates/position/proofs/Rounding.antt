@@ -36,7 +36,7 @@ nearest n m s b =
       upper = λ k e.
           test (ltb s k)
           (λ q. absurd (omega (arith, e, further n m s k b (ltb-true s k q))))
-          (λ q. ltb-false s k q);
+          (λ q. omega (arith, ltb-false s k q));
     }
   where
     below : (k : ℕ) → k ≤ s → apart (s * m) n ≤ apart (k * m) n
@@ -80,8 +80,8 @@ rounded-only n m s k a b = omega (arith, near-only n m s k a near, near-only n m
         )
 
 -- up to the last half step before t steps the count is below t
-pub count-below : (n m t s : ℕ) → Rounded n m s → 2 * n + m < 2 * (t * m) → s < t
+pub count-below : (n m t s : ℕ) → Near n m s → 2 * n + m < 2 * (t * m) → s < t
 count-below n m t s a l = test (ltb s t) (λ e. ltb-true s t e) (λ e. absurd (over (ltb-false s t e)))
   where
     over : t ≤ s → ⊥
-    over h = let g : t * m ≤ s * m = mul-le-mul h (omega arith) in omega (arith, l, a .half-a-step)
+    over h = let g : t * m ≤ s * m = mul-le-mul h (omega arith) in omega (arith, l, a)

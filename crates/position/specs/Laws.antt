@@ -58,6 +58,9 @@ pub record Positions (p : Profile) (r : ℕ) : Type 0 where
   pub scaled : p .operating / 4 % 2 ≡ 1 → Nearest (r * 5000) (p .step) (scaledCount p r)
   -- at most half a step away,
   pub rounded : p .operating / 4 % 2 ≡ 1 → Rounded (r * 5000) (p .step) (scaledCount p r)
+  -- (and in plain inequalities: at most half a step above r × 5,000, and less than half a step below)
+  pub by-halves : p .operating / 4 % 2 ≡ 1
+      → (2 * (scaledCount p r * p .step) ≤ 2 * (r * 5000) + p .step) × (2 * (r * 5000) < 2 * (scaledCount p r * p .step) + p .step)
   -- and the only such number
   pub nearest-only : p .operating / 4 % 2 ≡ 1 → (s : ℕ) → Nearest (r * 5000) (p .step) s → s ≡ scaledCount p r
   pub rounded-only : p .operating / 4 % 2 ≡ 1 → (s : ℕ) → Rounded (r * 5000) (p .step) s → s ≡ scaledCount p r
@@ -70,7 +73,7 @@ pub record Positions (p : Profile) (r : ℕ) : Type 0 where
   pub directed-below : directed p r < p .range
   pub below : position p r < p .range
   -- the position is the one number below T that differs from d + offset by a multiple of T
-  pub agrees : Agrees p r (position p r)
+  pub agrees : (k : ℤ) × (pos (position p r) ≡ pos (directed p r) +ℤ p .offset +ℤ k *ℤ pos (p .range))
   pub only : (n : ℕ) → n < p .range → Agrees p r n → n ≡ position p r
   -- without an offset it is d
   pub plain : p .offset ≡ pos 0 → position p r ≡ directed p r

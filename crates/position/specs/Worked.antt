@@ -32,7 +32,12 @@ pub record Worked : Type 0 where
   -- an odd step has no halves: 5,000 divided by 10,001 and by 9,999
   pub odd : (position (profile 4 1000000 10001) 1 ≡ 0) × (position (profile 4 1000000 9999) 1 ≡ 1)
   -- rounded before mod T: 999 and 999.5 with T = 1,000
-  pub before-range : (position (profile 4 1000 10000) 1998 ≡ 999) × (position (profile 4 1000 10000) 1999 ≡ 0)
+  pub before-range : (position (profile 4 1000 10000) 1998 ≡ 999)
+      × (position (profile 4 1000 10000) 1999 ≡ 0)
+      × (position (profile 12 1000 10000) 1999 ≡ 999)
+      × (presetTo (profile 4 1000 10000) 1999 40 .offset ≡ pos 40)
+  -- scaling off, 6005h = 10,000
+  pub off : position (profile 0 1048576 10000) 7 ≡ 7
   -- a preset goes by the same d: 3.5 gives 4
   pub preset-at-half : (presetTo (profile 4 1000000 10000) 7 40 .offset ≡ pos 36)
       × (presetTo (profile 12 1000000 10000) 7 0 .offset ≡ negsuc 999994)

@@ -15,9 +15,8 @@ use Rattle.can.specs.Signed.{twos}
 use Rattle.position.specs.declared.Profile.{Profile}
 use Rattle.position.specs.Position as formula
 use Rattle.position.specs.Profile.{ValidProfile}
-use Rattle.position.specs.Laws.{apart, Rounded}
 use Rattle.position.proofs.Whole.{minus-sum}
-use Rattle.position.proofs.Rounding.{count-below}
+use Rattle.position.proofs.Rounding.{Near, count-below}
 use Rattle.position.proofs.Laws.{laws as position-laws}
 use Rattle.entries.specs.declared.Device.{Device}
 use Rattle.entries.specs.declared.Reading.{Reading}
@@ -137,10 +136,10 @@ module _ (h : Head) (v : Valid h) (x : Scale) (e : ReadsScale h x) (r : ℕ) whe
   only-read s c =
       only-count (profileOf h) (v .device .settings .profile) r s (subst (λ (y : Scale). ScaledCount y r s) (scale-is h x e) c)
 
-  rounded-read : x .operating / 4 % 2 ≡ 1 → Rounded (r * 5000) (x .step) count
-  rounded-read =
-      subst (λ (y : Scale). y .operating / 4 % 2 ≡ 1 → Rounded (r * 5000) (y .step) count) (sym (scale-is h x e))
-      (position-laws .positions (profileOf h) r (v .device .settings .profile) .rounded)
+  near-read : x .operating / 4 % 2 ≡ 1 → Near (r * 5000) (x .step) count
+  near-read =
+      subst (λ (y : Scale). y .operating / 4 % 2 ≡ 1 → Near (r * 5000) (y .step) count) (sym (scale-is h x e))
+      (position-laws .positions (profileOf h) r (v .device .settings .profile) .by-halves)
 
 -- with direction 0 and no offset the position is the count, while that is below T
 plain : (x : Scale) (s : ℕ) → x .operating ≡ 4 → x .offset ≡ 0 → s < x .range → positionBy x s ≡ s
@@ -178,15 +177,15 @@ position-is p cs x e r s q c =
 
 half-a-step : (p : PowerUp) (cs : List Call) → let h = after (powered p) cs in (x : Scale) → ReadsScale h x → (r n : ℕ)
     → lastSample Missing cs ≡ Raw r → x .operating ≡ 4 → x .offset ≡ 0 → 2 * (r * 5000) + x .step < 2 * (x .range * x .step)
-    → Reads h 0x6004 0 n → apart (2 * (n * x .step)) (2 * (r * 5000)) ≤ x .step
+    → Reads h 0x6004 0 n → (2 * (n * x .step) ≤ 2 * (r * 5000) + x .step) × (2 * (r * 5000) < 2 * (n * x .step) + x .step)
 half-a-step p cs x e r n q o z l w =
     let h = after (powered p) cs in
     let v = valid-after (powered p) cs (valid-powered p) in
     let s = count h v x e r in
-    let a : Rounded (r * 5000) (x .step) s = rounded-read h v x e r (rw o refl) in
+    let a = near-read h v x e r (rw o refl) in
     let i : n ≡ s =
     same (readsIn h 0x6004 0) w (position-is p cs x e r s q (count-read h v x e r)) ∙ plain x s o z (count-below (r * 5000) (x .step) (x .range) s a l) in
-    rw i (omega (arith, a .half-a-step))
+    rw i a
 
 pub by-entries : ByEntries
 by-entries =

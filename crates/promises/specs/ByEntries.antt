@@ -7,7 +7,7 @@ use mathlib.Core.Bool.{true, cond}
 use mathlib.Core.List.{List, [], _∷_}
 use mathlib.Core.Option.{some}
 use Rattle.can.specs.declared.Received.{Received}
-use Rattle.position.specs.Laws.{apart, Nearest}
+use Rattle.position.specs.Laws.{Nearest}
 use Rattle.entries.specs.declared.table.Row.{Row}
 use Rattle.entries.specs.Table.{width}
 use Rattle.entries.specs.Laws.{Stands}
@@ -64,11 +64,11 @@ pub record ByEntries : Type 0 where
   -- and 6004-0 is the position, computed from it and the other entries
   pub position : (p : PowerUp) (cs : List Call) → let h = after (powered p) cs in (x : Scale) → ReadsScale h x → (r s : ℕ)
       → lastSample Missing cs ≡ Raw r → ScaledCount x r s → Reads h 0x6004 0 (positionBy x s)
-  -- A chart against a laser: with direction 0 and no offset, 6004h steps of 6005h are at most half a step away from r × 5,000 nm, up to the
-  -- last half step before T.
+  -- A chart against a laser: with direction 0 and no offset, 6004h steps of 6005h are at most half a step above r × 5,000 nm, and less than
+  -- half a step below, up to the last half step before T.
   pub half-a-step : (p : PowerUp) (cs : List Call) → let h = after (powered p) cs in (x : Scale) → ReadsScale h x → (r n : ℕ)
       → lastSample Missing cs ≡ Raw r → x .operating ≡ 4 → x .offset ≡ 0 → 2 * (r * 5000) + x .step < 2 * (x .range * x .step)
-      → Reads h 0x6004 0 n → apart (2 * (n * x .step)) (2 * (r * 5000)) ≤ x .step
+      → Reads h 0x6004 0 n → (2 * (n * x .step) ≤ 2 * (r * 5000) + x .step) × (2 * (r * 5000) < 2 * (n * x .step) + x .step)
   -- Accepted 6003h = p: offset becomes p − d at the present sample.
   pub presets : (p : PowerUp) (cs : List Call) → let h = after (powered p) cs in (x : Scale) → ReadsScale h x → (r s : ℕ)
       → lastSample Missing cs ≡ Raw r → ScaledCount x r s → (f : Received) (v : ℕ) → Writes h f 0x6003_00 v

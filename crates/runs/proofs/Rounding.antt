@@ -18,6 +18,7 @@ unfolding table lookup shown put due dueIn act settledTo
 rounding =
     record {
       scale-read = record { operating = refl; range = refl; step = refl; offset = refl };
+      sampled = refl;
       count = four;
       in-reply = refl;
       by-event = refl;
