@@ -55,6 +55,15 @@ near-only : (n m s k : ℕ) → Near n m s → Near n m k → k ≤ s
 near-only n m s k a b =
     test (ltb s k) (λ e. absurd (omega (arith, a, b, more s k m (ltb-true s k e)))) (λ e. ltb-false s k e)
 
+-- as the code divides: half of an odd m is rounded down
+pub halved : (n m c d : ℕ) → 0 < m → c ≡ n + m / 2 → d ≡ 2 * n + m → c / m ≡ d / (2 * m)
+halved n m c d h p q =
+    let e : c % m + c / m * m ≡ c = mod-add-div' c m in
+    let l : c % m < m = mod-lt c h in
+    let a : Near n m (c / m) = (omega (arith, p), omega (arith, p)) in
+    let b = divided n m d h q in
+    omega (arith, near-only n m (c / m) (d / (2 * m)) a b, near-only n m (d / (2 * m)) (c / m) b a)
+
 pub rounded : (n m s : ℕ) → Near n m s → Rounded n m s
 rounded n m s b =
     record {

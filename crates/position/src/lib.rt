@@ -85,12 +85,12 @@ fn scaled_count(profile: Profile, raw: u32) -> u64
     raw as u64
 }
 
-// Half a step is added, so that the division rounds to the nearest; all is doubled, for half of an odd step is no whole number.
+// Half a step is added, so that the division rounds to the nearest. Half of an odd step is rounded down: that changes no count.
 fn measuring_steps(raw: u32, step: u32) -> u64
     requires { ⌜ 0 < step ⌝ }
     ensures { λ r. ⌜ r ≡ measuringSteps raw step ⌝ }
 {
-    (2 * raw as u64 * RAW_STEP_NANOMETRES + step as u64) / (2 * step as u64)
+    (raw as u64 * RAW_STEP_NANOMETRES + step as u64 / 2) / step as u64
 }
 
 fn moved(directed: u32, offset: i32, range: u32) -> u32
