@@ -1,6 +1,7 @@
 /*
  * A host with the head of node 1, which plays the rest of the bus too: 130 ms, of which the tape is lost for 50. At 112 ms the master reads
- * the name that the head was given at power-up: the reply tells its size, and two segments bring its ten bytes.
+ * the name that the head was given at power-up: the reply tells its size, and two segments bring its ten bytes. Then it switches
+ * scaling on and sets a step of 1 mm: raw 70,897 is 354.485 steps and reads 354, raw 70,907 is 354.535 steps and reads 355.
  * A line is the time in ms and the frame that goes out on the bus then: identifier, length, bytes. `--` says what happened.
  * The CAN controller is a model with one mailbox. Other nodes keep the bus busy from 42 ms to 48 ms, and the tape is lost at 46 ms.
  * The frame 181h of 43 ms is still in the mailbox then. It has the position of its slot (TPDO1, type 254): the host withdraws it.
@@ -31,6 +32,10 @@ static const struct {
     {113, "read its first segment, toggle 0", {.identifier = 0x601, .length = 8, .bytes = {0x60}}},
     {114, "read its next segment, toggle 1", {.identifier = 0x601, .length = 8, .bytes = {0x70}}},
     {120, "SYNC", {.identifier = 0x080, .length = 0}},
+    {124, "scaling on (6000h)", {.identifier = 0x601, .length = 8, .bytes = {0x2B, 0x00, 0x60, 0x00, 0x04}}},
+    {125, "a step of 1 mm (6005-1)", {.identifier = 0x601, .length = 8, .bytes = {0x23, 0x05, 0x60, 0x01, 0x40, 0x42, 0x0F}}},
+    {126, "read the position (6004h)", {.identifier = 0x601, .length = 8, .bytes = {0x40, 0x04, 0x60, 0x00}}},
+    {127, "read the position (6004h)", {.identifier = 0x601, .length = 8, .bytes = {0x40, 0x04, 0x60, 0x00}}},
 };
 
 static void show(uint32_t now_ms, haybleater_frame frame)

@@ -1,9 +1,9 @@
 -- The nearest whole number to n / m, halves upward: (2 n + m) / (2 m) is it, and no other number is. Assumes nothing.
 use Prim.Native.Nat.{ℕ, suc, _+_, _*_, _/_, _%_, _≤_, _<_}
-use native.Mathlib.Nat.{mod-lt, mod-add-div', mul-le-mul}
+use native.Mathlib.Nat.{mod-lt, mod-add-div', mul-le-mul, div-div-eq-div-mul}
 use native.Mathlib.Omega.{arith}
 use lib.Dec.{ltb}
-use mathlib.Core.Path.{_≡_, sym}
+use mathlib.Core.Path.{_≡_, sym, ap, _∙_}
 use borrow.Author.Tests.{ltb-true, ltb-false}
 use Rattle.cases.proofs.Cases.{test}
 use Rattle.position.specs.Laws.{apart, Nearest, Rounded}
@@ -51,18 +51,9 @@ nearest-only n m s k a b =
     let e : apart (k * m) n ≡ apart (s * m) n = omega (arith, a .nearest k, b .nearest s) in
     omega (arith, a .upper k e, b .upper s (sym e))
 
-near-only : (n m s k : ℕ) → Near n m s → Near n m k → k ≤ s
-near-only n m s k a b =
+near-at-most : (n m s k : ℕ) → Near n m s → Near n m k → k ≤ s
+near-at-most n m s k a b =
     test (ltb s k) (λ e. absurd (omega (arith, a, b, more s k m (ltb-true s k e)))) (λ e. ltb-false s k e)
-
--- as the code divides: half of an odd m is rounded down
-pub halved : (n m c d : ℕ) → 0 < m → c ≡ n + m / 2 → d ≡ 2 * n + m → c / m ≡ d / (2 * m)
-halved n m c d h p q =
-    let e : c % m + c / m * m ≡ c = mod-add-div' c m in
-    let l : c % m < m = mod-lt c h in
-    let a : Near n m (c / m) = (omega (arith, p), omega (arith, p)) in
-    let b = divided n m d h q in
-    omega (arith, near-only n m (c / m) (d / (2 * m)) a b, near-only n m (d / (2 * m)) (c / m) b a)
 
 pub rounded : (n m s : ℕ) → Near n m s → Rounded n m s
 rounded n m s b =
@@ -70,11 +61,11 @@ rounded n m s b =
       half-a-step = omega (arith, b);
       upward = λ k e.
           let c : Near n m (suc k) = (omega (arith, e), omega (arith, e)) in
-          omega (arith, near-only n m s (suc k) b c, near-only n m (suc k) s c b);
+          omega (arith, near-at-most n m s (suc k) b c, near-at-most n m (suc k) s c b);
     }
 
 pub rounded-only : (n m s k : ℕ) → Near n m s → Rounded n m k → k ≡ s
-rounded-only n m s k a b = omega (arith, near-only n m s k a near, near-only n m k s near a)
+rounded-only n m s k a b = omega (arith, near-at-most n m s k a near, near-at-most n m k s near a)
   where
     no-half : 2 * n ≡ 2 * m * k + m → ⊥
     no-half e = omega (arith, b .upward k e)
@@ -94,3 +85,7 @@ count-below n m t s a l = test (ltb s t) (λ e. ltb-true s t e) (λ e. absurd (o
   where
     over : t ≤ s → ⊥
     over h = let g : t * m ≤ s * m = mul-le-mul h (omega arith) in omega (arith, l, a)
+
+-- as the code divides: by half of the divisor, half of the dividend rounded down
+pub halved : (c d m : ℕ) → c ≡ d / 2 → c / m ≡ d / (2 * m)
+halved c d m e = ap (λ (n : ℕ). n / m) e ∙ div-div-eq-div-mul d 2 m

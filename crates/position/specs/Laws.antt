@@ -72,7 +72,7 @@ pub record Positions (p : Profile) (r : ℕ) : Type 0 where
   pub inverted : p .operating / 8 % 2 ≡ 1 → directed p r + count p r + 1 ≡ p .range
   pub directed-below : directed p r < p .range
   pub below : position p r < p .range
-  -- the position is the one number below T that differs from d + offset by a multiple of T
+  -- the position is the one number below T that differs from d + offset by a multiple of T (`agrees` says it without the word `Agrees`)
   pub agrees : (k : ℤ) × (pos (position p r) ≡ pos (directed p r) +ℤ p .offset +ℤ k *ℤ pos (p .range))
   pub only : (n : ℕ) → n < p .range → Agrees p r n → n ≡ position p r
   -- without an offset it is d

@@ -21,7 +21,7 @@ directionBit = 3
 abbrev pub rawStep : ℕ
 rawStep = 5000
 
--- The nearest whole number to r × 5,000 / m, halves upward (4/13): r × 5,000 / m and one half, rounded down.
+-- The nearest whole number to r × 5,000 / m, halves upward (4/13): r × 5,000 / m plus one half, rounded down.
 abbrev pub measuringSteps : ℕ → ℕ → ℕ
 measuringSteps r m = (2 * r * rawStep + m) / (2 * m)
 

@@ -175,25 +175,21 @@ position-is p cs x e r s q c =
     ∙ ap (λ n. some (Number n)) (sym (position-by (profileOf h) (v .device .settings .profile) r))
     ∙ ap₂ (λ (y : Scale) (n : ℕ). some (Number (positionBy y n))) (sym (scale-is h x e)) (sym (only-read h v x e r s c))
 
-half-a-step : (p : PowerUp) (cs : List Call) → let h = after (powered p) cs in (x : Scale) → ReadsScale h x → (r n : ℕ)
-    → lastSample Missing cs ≡ Raw r → x .operating ≡ 4 → x .offset ≡ 0 → 2 * (r * 5000) + x .step < 2 * (x .range * x .step)
-    → Reads h 0x6004 0 n → (2 * (n * x .step) ≤ 2 * (r * 5000) + x .step) × (2 * (r * 5000) < 2 * (n * x .step) + x .step)
-half-a-step p cs x e r n q o z l w =
-    let h = after (powered p) cs in
-    let v = valid-after (powered p) cs (valid-powered p) in
-    let s = count h v x e r in
-    let a = near-read h v x e r (rw o refl) in
-    let i : n ≡ s =
-    same (readsIn h 0x6004 0) w (position-is p cs x e r s q (count-read h v x e r)) ∙ plain x s o z (count-below (r * 5000) (x .step) (x .range) s a l) in
-    rw i a
-
 pub by-entries : ByEntries
 by-entries =
     record {
       asked = asked;
       scaled-count = λ h a x e r. let v = valid-reachable h a in (count h v x e r, count-read h v x e r, only-read h v x e r);
       position = position-is;
-      half-a-step = half-a-step;
+      half-a-step = λ p cs x e r n q o z l w.
+          let h = after (powered p) cs in
+          let v = valid-after (powered p) cs (valid-powered p) in
+          let s = count h v x e r in
+          let a = near-read h v x e r (rw o refl) in
+          let i : n ≡ s =
+          same (readsIn h 0x6004 0) w (position-is p cs x e r s q (count-read h v x e r))
+          ∙ plain x s o z (count-below (r * 5000) (x .step) (x .range) s a l) in
+          rw i a;
       presets = λ p cs x e r s q c f v w.
           let h = after (powered p) cs in
           let valid = valid-after (powered p) cs (valid-powered p) in

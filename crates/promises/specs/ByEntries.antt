@@ -64,8 +64,8 @@ pub record ByEntries : Type 0 where
   -- and 6004-0 is the position, computed from it and the other entries
   pub position : (p : PowerUp) (cs : List Call) → let h = after (powered p) cs in (x : Scale) → ReadsScale h x → (r s : ℕ)
       → lastSample Missing cs ≡ Raw r → ScaledCount x r s → Reads h 0x6004 0 (positionBy x s)
-  -- A chart against a laser: with direction 0 and no offset, 6004h steps of 6005h are at most half a step above r × 5,000 nm, and less than
-  -- half a step below, up to the last half step before T.
+  -- A chart against a laser: with direction 0 and no offset, what 6004h reads times 6005h is at most half a step above r × 5,000 nm and
+  -- less than half a step below, up to the last half step before T.
   pub half-a-step : (p : PowerUp) (cs : List Call) → let h = after (powered p) cs in (x : Scale) → ReadsScale h x → (r n : ℕ)
       → lastSample Missing cs ≡ Raw r → x .operating ≡ 4 → x .offset ≡ 0 → 2 * (r * 5000) + x .step < 2 * (x .range * x .step)
       → Reads h 0x6004 0 n → (2 * (n * x .step) ≤ 2 * (r * 5000) + x .step) × (2 * (r * 5000) < 2 * (n * x .step) + x .step)

@@ -25,5 +25,6 @@ rounding =
       at-sync = refl;
       in-preset = refl;
       before-range = refl;
+      turned = refl;
       scaling-off = refl;
     }

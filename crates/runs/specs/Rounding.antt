@@ -49,5 +49,7 @@ pub record Rounding : Type 0 where
   pub before-range : Send (scaledAt 1998 ++ writes (bytes 0x23 0x02 0x60 0x00 0xE8 0x03 0 0))
       (asks ∷ slot ∷ sample (Raw 1999) ∷ asks ∷ slot ∷ writes (bytes 0x23 0x03 0x60 0x00 40 0 0 0) ++ request offset ∷ slot ∷ [])
       (reads 999 ∷ reads 0 ∷ written 0x03 0x60 0x00 ∷ frame 0x581 8 (bytes 0x43 0x09 0x65 0x00 40 0 0 0) ∷ [])
+  -- direction 1 turns the rounded count: T − 1 − 4
+  pub turned : Send (scaledAt 7 ++ writes (bytes 0x2B 0x00 0x60 0x00 0x0C 0 0 0)) (asks ∷ slot ∷ []) (reads 999995 ∷ [])
   -- with scaling off nothing changes: 6000h = 0, and 6005h is still 10,000
   pub scaling-off : Send (scaledAt 7 ++ writes (bytes 0x2B 0x00 0x60 0x00 0 0 0 0)) (asks ∷ slot ∷ []) (reads 7 ∷ [])

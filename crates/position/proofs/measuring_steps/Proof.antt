@@ -1,6 +1,5 @@
 -- `measuring_steps` meets its contract: no sum wraps, and half of an odd step may be rounded down.
 use borrow.Author.Needs.{needs}
-use Prim.Native.Nat.{_*_}
 use native.Mathlib.Omega.{arith}
 use Rattle.position.proofs.Rounding.{halved}
 use Rattle.position.proofs.measuring_steps.Statement.{statement}
@@ -16,7 +15,7 @@ div-result : tie.Need-div-result
 div-result c = search needs
 
 returns : tie.Need-returns
-returns c = halved (c .args .raw * 5000) _ _ _ (c .pre) (omega arith) (omega arith)
+returns c = halved _ _ _ (omega arith)
 
 pub measuring-steps-spec : {M : Type 1} → statement M
 measuring-steps-spec = tie.close (tie.spec mul-result add-result div-result returns)
