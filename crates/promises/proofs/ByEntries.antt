@@ -1,6 +1,6 @@
 -- Proves `ByEntries` of specs/ByEntries.antt.
 use Prim.Native.Nat.{ℕ, zero, suc, _+_, _-_, _*_, _/_, _%_, _≤_, _<_, zero-le}
-use native.Mathlib.Nat.{add-zero, sub-zero, mod-eq-of-lt}
+use native.Mathlib.Nat.{add-zero, sub-zero, mod-eq-of-lt, mod-add-div'}
 use native.Mathlib.Omega.{arith}
 use lib.Dec.{eqb, ltb}
 use lib.IntN.{ℤ, pos, negsuc, _+ℤ_, _-ℤ_, natAbs}
@@ -175,6 +175,40 @@ position-is p cs x e r s q c =
     ∙ ap (λ n. some (Number n)) (sym (position-by (profileOf h) (v .device .settings .profile) r))
     ∙ ap₂ (λ (y : Scale) (n : ℕ). some (Number (positionBy y n))) (sym (scale-is h x e)) (sym (only-read h v x e r s c))
 
+-- 6509h after an accepted 6003h = v
+offset-is : (p : PowerUp) (cs : List Call) → let h = after (powered p) cs in (r : ℕ) → lastSample Missing cs ≡ Raw r
+    → (f : Received) (v : ℕ) → Writes h f 0x6003_00 v → Reads (step h (receive f)) 0x6509 0 (offsetBy v (formula.directed (profileOf h) r))
+offset-is p cs r q f v w =
+    let h = after (powered p) cs in
+    let valid = valid-after (powered p) cs (valid-powered p) in
+    let o = profileOf h in
+    let raw = h .core .device .reading .raw in
+    let its-raw : raw ≡ r = ap (λ (t : Reading). t .raw) (tells p cs .reading-is ∙ ap readingOf q) in
+    let below = position-laws .positions o raw (valid .device .settings .profile) .directed-below in
+    written h (record { start = p; calls = cs; so = refl }) f 0x6003_00 v w 0x6509 0 (parameters-read h .offset)
+    ∙ ap (λ n. some (Number n)) (offset-by v (formula.directed o raw) (omega (arith, below, valid .device .settings .profile .high)))
+    ∙ ap (λ n. some (Number (offsetBy v (formula.directed o n)))) its-raw
+
+-- (d + offset) mod T and its multiple of T, by the sign of the offset
+module _ (d t : ℕ) (h : t ≤ 1048576) where
+  abbrev Sum : ℕ → ℕ → Type 0
+  Sum z n = (k : ℕ) × (z < 0x80000000 → n + k * t ≡ d + z) × (0x80000000 ≤ z → n + k * t + 0x100000000 ≡ d + z + t)
+
+  sum-of : (a : ℤ) → natAbs a < t → Sum (twos a) (formula.modℤ (pos d +ℤ a) t)
+  sum-of (pos m) l = ((d + m) / t, (λ _. mod-add-div' (d + m) t), λ g. absurd (omega (arith, g, l, h)))
+  sum-of (negsuc m) l =
+      let y = d + (t - suc m) in
+      let i : y % t + y / t * t ≡ y = mod-add-div' y t in
+      let e : y % t ≡ formula.modℤ (pos d +ℤ negsuc m) t = minus-sum (negsuc m) d t refl l in
+      (y / t, (λ g. absurd (omega (arith, g, l, h))), λ g. rw (sym e) (omega (arith, i, l, h)))
+
+-- p − d in 32 bits
+preset-of : (v d z : ℕ) → d ≤ 0x100000000 → z ≡ offsetBy v d → (d ≤ v → d + z ≡ v) × (v < d → d + z ≡ v + 0x100000000)
+preset-of v d z l e = (
+  (λ g. let i : z ≡ v - d = e ∙ rw (le-ltb v d g) refl in omega (arith, i, g)),
+  λ g. let i : z ≡ 0x100000000 - (d - v) = e ∙ rw (lt-ltb v d g) refl in omega (arith, i, g, l),
+)
+
 pub by-entries : ByEntries
 by-entries =
     record {
@@ -193,14 +227,37 @@ by-entries =
       presets = λ p cs x e r s q c f v w.
           let h = after (powered p) cs in
           let valid = valid-after (powered p) cs (valid-powered p) in
-          let o = profileOf h in
-          let raw = h .core .device .reading .raw in
-          let its-raw : raw ≡ r = ap (λ (t : Reading). t .raw) (tells p cs .reading-is ∙ ap readingOf q) in
-          let below = position-laws .positions o raw (valid .device .settings .profile) .directed-below in
-          written h (record { start = p; calls = cs; so = refl }) f 0x6003_00 v w 0x6509 0 (parameters-read h .offset)
-          ∙ ap (λ n. some (Number n)) (offset-by v (formula.directed o raw) (omega (arith, below, valid .device .settings .profile .high)))
-          ∙ ap (λ n. some (Number (offsetBy v (formula.directed o n)))) its-raw
+          offset-is p cs r q f v w
           ∙ ap₂ (λ (y : Scale) (n : ℕ). some (Number (offsetBy v (directedBy y n)))) (sym (scale-is h x e)) (sym (only-read h valid x e r s c));
+      plainly = λ p cs o t m r e1 e2 e3 q.
+          let h = after (powered p) cs in
+          let x = profileOf h in
+          let v = valid-after (powered p) cs (valid-powered p) .device .settings .profile in
+          let its = position-laws .positions x r v in
+          let reads = parameters-read h in
+          rw (
+            same (readsIn h 0x6000 0) e1 (reads .operating),
+            same (readsIn h 0x6002 0) e2 (reads .range),
+            same (readsIn h 0x6005 1) e3 (reads .step),
+          ) (
+            formula.scaledCount x r,
+            formula.count x r,
+            formula.directed x r,
+            its .unscaled,
+            its .by-halves,
+            its .count-below,
+            its .counted,
+            its .straight,
+            its .inverted,
+            (λ z n a b.
+                let z-is : z ≡ twos (x .offset) = same (readsIn h 0x6509 0) a (reads .offset) in
+                let n-is : n ≡ formula.position x r =
+                same (readsIn h 0x6004 0) b (tells p cs .position ∙ ap (λ (u : Sensor). some (shownPosition x u)) q) in
+                rw (z-is, n-is) (its .below, sum-of (formula.directed x r) (x .range) (v .high) (x .offset) (v .offset))),
+            λ f w z a b.
+                let z-is = same (readsIn (step h (receive f)) 0x6509 0) b (offset-is p cs r q f w a) in
+                preset-of w (formula.directed x r) z (omega (arith, its .directed-below, v .high)) z-is,
+          );
       rescales = λ h x f v. (both-written h x f 0x6000_00 v, (both-written h x f 0x6002_00 v, (both-written h x f 0x6005_01 v, tt)));
       ranges = λ h x f v w. written h x f 0x6000_00 v w 0x6002 0 (parameters-read h .range);
     }

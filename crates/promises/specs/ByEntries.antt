@@ -73,6 +73,21 @@ pub record ByEntries : Type 0 where
   pub presets : (p : PowerUp) (cs : List Call) → let h = after (powered p) cs in (x : Scale) → ReadsScale h x → (r s : ℕ)
       → lastSample Missing cs ≡ Raw r → ScaledCount x r s → (f : Received) (v : ℕ) → Writes h f 0x6003_00 v
       → Reads (step h (receive f)) 0x6509 0 (offsetBy v (directedBy x s))
+  -- The chapter "Position" in numbers alone, from what the entries read: s, c and d of the sample r; the position n with the offset z; and
+  -- the offset z that an accepted 6003h = v leaves. T is t. 6509h is signed: from 8000 0000h on it is 2^32 less.
+  pub plainly : (p : PowerUp) (cs : List Call) → let h = after (powered p) cs in (o t m r : ℕ)
+      → Reads h 0x6000 0 o → Reads h 0x6002 0 t → Reads h 0x6005 1 m → lastSample Missing cs ≡ Raw r
+      → (s : ℕ) × (c : ℕ) × (d : ℕ)
+      × (o / 4 % 2 ≡ 0 → s ≡ r)
+      × (o / 4 % 2 ≡ 1 → (2 * (s * m) ≤ 2 * (r * 5000) + m) × (2 * (r * 5000) < 2 * (s * m) + m))
+      × (c < t)
+      × ((k : ℕ) × (s ≡ c + k * t))
+      × (o / 8 % 2 ≡ 0 → d ≡ c)
+      × (o / 8 % 2 ≡ 1 → d + c + 1 ≡ t)
+      × ((z n : ℕ) → Reads h 0x6509 0 z → Reads h 0x6004 0 n
+      → (n < t) × ((k : ℕ) × (z < 0x80000000 → n + k * t ≡ d + z) × (0x80000000 ≤ z → n + k * t + 0x100000000 ≡ d + z + t)))
+      × ((f : Received) (v z : ℕ) → Writes h f 0x6003_00 v → Reads (step h (receive f)) 0x6509 0 z
+      → (d ≤ v → d + z ≡ v) × (v < d → d + z ≡ v + 0x100000000))
   -- Any accepted write of 6000h, 6002h or 6005h, also of an equal value, sets 6003h and the offset to 0;
   pub rescales : (h : Head) → Reachable h → (f : Received) (v : ℕ)
       → All (λ k. Writes h f k v → Reads (step h (receive f)) 0x6003 0 0 × Reads (step h (receive f)) 0x6509 0 0)

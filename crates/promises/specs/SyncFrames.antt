@@ -105,7 +105,8 @@ pub record SyncFrames : Type 0 where
       Synchronises h f → on (pdoOf h w .identifier) ≡ true → OnSyncs (pdoOf h w)
       → EachOf (pdoOf h w .transmission) (countsAfter p cs .syncs w)
       → readsIn h 0x6004 0 ≡ some (Number x)
-      → frameOf (step h (receive f) .core) (tpdo w) ≡ positionFrame (pdoOf h w .identifier) x
+      → frameOf (step h (receive f) .core) (tpdo w)
+      ≡ record { identifier = pdoOf h w .identifier; length = 4; bytes = lowFirst 4 x ++ 0 ∷ 0 ∷ 0 ∷ 0 ∷ [] }
   -- and no other call, a SYNC that is not due included, changes what a waiting frame carries.
   pub unmoved : (p : PowerUp) (cs : List Call) (c : Call) (w : PdoNumber) → let h = after (powered p) cs in
       OnSyncs (pdoOf h w) → waits h (tpdo w) ≡ true → waits (step h c) (tpdo w) ≡ true

@@ -8,6 +8,7 @@ use Rattle.sdo.specs.Service.{due}
 use Rattle.sdo.specs.Upload.{dueIn}
 use Rattle.promises.specs.Acts.{settledTo, act}
 use Rattle.promises.specs.ByEntries.{ScaledCount}
+use Rattle.promises.proofs.Service.{is-request}
 use Rattle.runs.specs.Rounding.{scale, Rounding}
 
 four : ScaledCount scale 7 4
@@ -20,6 +21,7 @@ rounding =
       scale-read = record { operating = refl; range = refl; step = refl; offset = refl };
       sampled = refl;
       count = four;
+      presets = record { requests = is-request _ _ .0 refl; accepted = refl };
       in-reply = refl;
       by-event = refl;
       at-sync = refl;
