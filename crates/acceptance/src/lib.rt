@@ -1,5 +1,8 @@
 //! Which writes an entry accepts, by value and by state, and the abort code
 //! for any other: 01, "Entries", and steps 5 and 6 of "First that applies".
+
+#![tactic(auto)]
+
 ghost use Rattle.std.specs.Prelude.{◌≡◌, cond};
 ghost use Rattle.dictionary.specs.Accepted.{on, pdo_identifier, transmission_type, value_abort_code, pdo_barred, barred as barredBy, abort_code};
 

@@ -1,4 +1,7 @@
 //! What each command of the session does to the head, and what it prints: 01, "Worked numbers", "Session program".
+
+#![tactic(auto)]
+
 ghost use Rattle.std.specs.Prelude.{◌≡◌};
 ghost use Rattle.promises.specs.Calls.{receive as receives, sample as samples};
 ghost use Rattle.promises.specs.Valid.{Valid};

@@ -1,9 +1,12 @@
 //! Counts a period in ticks or in SYNCs: 01, "The waiting line".
+
+#![tactic(auto)]
+
 ghost use Rattle.std.specs.Prelude.{◌≡◌, cond};
 ghost use Rattle.counting.specs.Periods.{one_more};
 
 // The count, and whether the period ended with it.
-#[derive(Drop)]
+#[derive(Clone, Copy)]
 pub struct Count {
     pub count: u32,
     pub ends: bool,

@@ -1,5 +1,8 @@
 //! The object dictionary: what each entry reads, which values it accepts, and
 //! what a write does (01, "Entries"). Types, definitions and laws, no code.
+
+#![tactic(auto)]
+
 ghost use Rattle.dictionary.specs.AcceptedLaws.{AcceptedLaws};
 ghost use Rattle.dictionary.specs.ValidLaws.{ValidLaws};
 ghost use Rattle.dictionary.specs.WriteLaws.{WriteLaws};

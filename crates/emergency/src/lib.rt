@@ -1,4 +1,7 @@
 //! The emergency: when it waits, its frame, and the inhibit time that it starts. 01, "The waiting line".
+
+#![tactic(auto)]
+
 ghost use Rattle.std.specs.Prelude.{◌≡◌, ◌+◌, ◌-◌, ◌≤◌};
 ghost use Rattle.cases.specs.Padded.{pad};
 ghost use Rattle.promises.specs.WaitingLine.{may_alert, emergency_bytes, frame as frameWith};

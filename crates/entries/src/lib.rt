@@ -1,4 +1,7 @@
 //! The settings and their factory values, the device that the entries show, and the table of entries. 01, "Entries".
+
+#![tactic(auto)]
+
 ghost use Rattle.std.specs.Prelude.{◌≡◌};
 ghost use Rattle.entries.specs.Settings.{factory as factorySettings};
 ghost use Rattle.entries.specs.Identity.{name_of};
@@ -11,7 +14,7 @@ pub mod table;
 
 // Every number of the settings has 32 bits, like the data of a request, whatever the type of its entry.
 #[repr(C)]
-#[derive(Drop)]
+#[derive(Clone, Copy)]
 pub struct Pdo {
     pub identifier: u32,
     pub transmission: u32,
@@ -20,7 +23,7 @@ pub struct Pdo {
 
 // The settings below 2000h: 1014h, 1015h, 1017h, 1800h, 1801h.
 #[repr(C)]
-#[derive(Drop)]
+#[derive(Clone, Copy)]
 pub struct Communication {
     pub emergency: u32,
     pub inhibit: u32,
@@ -30,7 +33,7 @@ pub struct Communication {
 }
 
 #[repr(C)]
-#[derive(Drop)]
+#[derive(Clone, Copy)]
 pub struct Settings {
     pub communication: Communication,
     pub profile: Profile,
@@ -70,7 +73,7 @@ impl Settings {
 
 // The numbers of 1018h, and the names 1008h, 1009h, 100Ah.
 #[repr(C)]
-#[derive(Drop)]
+#[derive(Clone, Copy)]
 pub struct Identity {
     pub vendor: u32,
     pub product: u32,
@@ -96,7 +99,7 @@ pub fn name_of(identity: Identity, number: u8) -> Name
 
 // The present sample: its raw number is 0 while it is missing.
 #[repr(C)]
-#[derive(Drop)]
+#[derive(Clone, Copy)]
 pub struct Reading {
     pub good: bool,
     pub raw: u32,
@@ -104,7 +107,7 @@ pub struct Reading {
 
 // What the entries show and writes alter.
 #[repr(C)]
-#[derive(Drop)]
+#[derive(Clone, Copy)]
 pub struct Device {
     pub node: u8,
     pub identity: Identity,

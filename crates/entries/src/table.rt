@@ -13,7 +13,7 @@ use Source::{
 use WhenBlank::{Beyond, Missing, Never};
 
 // The values that an entry accepts.
-#[derive(Drop)]
+#[derive(Clone, Copy)]
 pub enum Accepted {
     Nothing,
     All,
@@ -28,7 +28,7 @@ pub enum Accepted {
 }
 
 // When an entry is blank: never, while the reading is missing, or with fewer errors in the list than this.
-#[derive(Drop)]
+#[derive(Clone, Copy)]
 pub enum WhenBlank {
     Never,
     Missing,
@@ -36,7 +36,7 @@ pub enum WhenBlank {
 }
 
 // Where the number of an entry comes from. A setting has the key of its entry for a name.
-#[derive(Drop)]
+#[derive(Clone, Copy)]
 pub enum Source {
     Fixed(u32),
     Setting(u32),
@@ -53,7 +53,7 @@ pub enum Source {
 }
 
 // Key, type, whether it can be written, accepted values, when it is blank, where its number comes from.
-#[derive(Drop)]
+#[derive(Clone, Copy)]
 pub struct Row(
     pub u32,
     pub u8,
@@ -64,7 +64,7 @@ pub struct Row(
 );
 
 // What the list has for an index and a sub-index.
-#[derive(Drop)]
+#[derive(Clone, Copy)]
 pub enum Found {
     At(Row),
     NoSubIndex,

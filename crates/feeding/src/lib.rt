@@ -1,4 +1,7 @@
 //! The input of a session as its bytes arrive (a byte, a chunk, the end), and what it prints: 01, "Worked numbers", "Session program".
+
+#![tactic(auto)]
+
 ghost use Rattle.std.specs.Prelude.{◌+◌, ◌*◌, ◌≤◌, length};
 ghost use Rattle.text.specs.Lines.{longest, held};
 ghost use Rattle.promises.specs.Valid.{Valid};

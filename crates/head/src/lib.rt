@@ -1,5 +1,8 @@
 //! The head by value: power-up, frame received, tick, sample, slot. 01, "The head and its
 //! neighbours". Each call passes parts of the head to a step and stores the parts that come back.
+
+#![tactic(auto)]
+
 ghost use Rattle.std.specs.Prelude.{◌≡◌};
 ghost use Rattle.promises.specs.States.{started as startedHead};
 ghost use Rattle.parts.specs.declared.Sensor.TheVariants.{Missing, Raw};

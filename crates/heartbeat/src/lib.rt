@@ -1,4 +1,7 @@
 //! The heartbeat: when it may wait, its period, its frame. 01, "The waiting line".
+
+#![tactic(auto)]
+
 ghost use Rattle.std.specs.Prelude.{◌≡◌, [], ◌∷◌, ◌+◌};
 ghost use Rattle.promises.specs.WaitingLine.{may_beat, frame as frameWith};
 ghost use Rattle.counting.specs.Periods.{one_more};

@@ -1,6 +1,9 @@
 //! The head for a host that keeps it in its own memory and lends it for each
 //! call; C and Rust link these functions. 01, "The head and its neighbours".
 //! Each call passes parts of the head to a step by value and stores the parts that come back.
+
+#![tactic(auto)]
+
 ghost use Rattle.std.specs.Prelude.{◌≡◌};
 ghost use Rattle.parts.specs.declared.Sensor.TheVariants.{Missing, Raw};
 ghost use Rattle.promises.specs.Valid.{Valid};
@@ -21,7 +24,7 @@ mod question;
 
 // A position, if it is known. Otherwise the number is 0 and means nothing.
 #[repr(C)]
-#[derive(Drop)]
+#[derive(Clone, Copy)]
 pub struct Located {
     pub known: bool,
     pub position: u32,

@@ -1,4 +1,7 @@
 //! A line gathered byte by byte, for reading and for printing: 01, "Worked numbers", "Session program".
+
+#![tactic(auto)]
+
 ghost use Rattle.std.specs.Prelude.{◌≡◌};
 ghost use Rattle.text.specs.Lines.{at_most, longest, blank, pushed};
 

@@ -1,4 +1,6 @@
 //! The names of a head, and the segments in which an SDO client reads one: CiA 301, "SDO upload segment".
+#![tactic(auto)]
+
 ghost use Rattle.std.specs.Prelude.{◌≡◌, [], ◌∷◌, length};
 ghost use Rattle.names.specs.Name.{is_name, named as name_of, unknown as unknownName};
 ghost use Rattle.names.specs.Segment.{left_of, command_of, byte_at, segment_of, toggle_of};
@@ -11,7 +13,7 @@ const LONGEST: u8 = 32;
 
 // A string of 1 to 32 bytes: the first `length` of `bytes`.
 #[repr(C)]
-#[derive(Drop)]
+#[derive(Clone, Copy)]
 pub struct Name {
     pub bytes: [u8; 32],
     pub length: u8,
@@ -19,7 +21,7 @@ pub struct Name {
 
 // The upload of a name: its number is 1 for 1008h, 2 for 1009h, 3 for 100Ah, and 0 if none runs; and the segments answered so far.
 #[repr(C)]
-#[derive(Drop)]
+#[derive(Clone, Copy)]
 pub struct Transfer {
     pub name: u8,
     pub segments: u8,

@@ -9,7 +9,7 @@ use entries::{Communication, Settings};
 use parts::{Nmt, Timers};
 use waiting::{Flags, HEARTBEAT, Line, TPDO1, TPDO2};
 
-#[derive(Drop)]
+#[derive(Clone, Copy)]
 pub struct Entered {
     pub nmt: Nmt,
     pub timers: Timers,
@@ -76,7 +76,7 @@ fn entry_due(settings: Communication, state: Nmt) -> Flags
     ]
 }
 
-#[derive(Drop)]
+#[derive(Clone, Copy)]
 pub struct Restarted {
     pub settings: Settings,
     pub nmt: Nmt,

@@ -1,4 +1,7 @@
 //! NMT: what a command orders, and what entering a state and a reset do. 01, "States".
+
+#![tactic(auto)]
+
 ghost use Rattle.std.specs.Prelude.{◌≡◌};
 ghost use Rattle.promises.specs.States.{command_of, command as commandIn};
 ghost use Rattle.nmt.specs.Orders.{no_order, order_of, entering};
@@ -21,7 +24,7 @@ const RESET_NODE: u8 = 0x81;
 const RESET_COMMUNICATION: u8 = 0x82;
 
 // What a command does: it enters a state, or resets all settings or those of communication, or does nothing.
-#[derive(Drop)]
+#[derive(Clone, Copy)]
 pub struct Order {
     pub enters: bool,
     pub state: Nmt,

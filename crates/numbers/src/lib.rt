@@ -1,10 +1,13 @@
 //! Reads a field of a line as a number: 01, "Worked numbers", "Session program".
+
+#![tactic(auto)]
+
 ghost use Rattle.std.specs.Prelude.{◌≡◌, ◌≤◌};
 ghost use Rattle.text.specs.Grammar.{digit_of};
 ghost use Rattle.numbers.specs.Steps.{number_at, closed_by};
 
 // `end` is where the field ends.
-#[derive(Drop)]
+#[derive(Clone, Copy)]
 pub enum Number {
     Not,
     Is { value: u64, end: usize },

@@ -1,5 +1,7 @@
 //! The contract of each public call allows one outcome: 01, "Strength of the promises". Theorems, no code.
 
+#![tactic(auto)]
+
 ghost use Rattle.outcomes.specs.Asked.{Asked};
 ghost use Rattle.outcomes.specs.ByValue.{ByValue};
 ghost use Rattle.outcomes.specs.Lent.{Lent};

@@ -1,4 +1,7 @@
 //! Parses a line of the session into a command: 01, "Worked numbers", "Session program".
+
+#![tactic(auto)]
+
 ghost use Rattle.std.specs.Prelude.{◌≡◌};
 ghost use Rattle.text.specs.Grammar.{parsed, says_line};
 

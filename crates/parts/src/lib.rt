@@ -1,4 +1,7 @@
 //! The types of a head, and of what its calls take and answer. Crates `head` and `lent` have the calls. 01, "The head and its neighbours".
+
+#![tactic(auto)]
+
 use can::{Bytes, Frame};
 use entries::{Device, Identity};
 use names::Transfer;
@@ -6,7 +9,7 @@ use waiting::Line;
 
 // A state, named with its heartbeat code.
 #[repr(C)]
-#[derive(Drop)]
+#[derive(Clone, Copy)]
 pub struct Nmt {
     pub code: u8,
 }
@@ -23,7 +26,7 @@ impl Nmt {
 
 // The counts of a PDO since entry to Operational or since it was switched on; for the ticks also since a write to its sub 5.
 #[repr(C)]
-#[derive(Drop)]
+#[derive(Clone, Copy)]
 pub struct Clock {
     pub ticks: u32,
     pub syncs: u32,
@@ -31,7 +34,7 @@ pub struct Clock {
 
 // The ticks left of the inhibit time, and the ticks of the heartbeat since its write or since boot-up.
 #[repr(C)]
-#[derive(Drop)]
+#[derive(Clone, Copy)]
 pub struct Timers {
     pub inhibit: u32,
     pub heartbeat: u32,
@@ -41,7 +44,7 @@ pub struct Timers {
 
 // The position that a frame of types 1 to 240 carries, for each PDO: fixed at its last due SYNC. It means something only while the frame waits.
 #[repr(C)]
-#[derive(Drop)]
+#[derive(Clone, Copy)]
 pub struct Fixed {
     pub pdo1: u32,
     pub pdo2: u32,
@@ -50,7 +53,7 @@ pub struct Fixed {
 // All but the line and the transfer. `announced` is whether the reading last announced was good. `reply` holds the bytes of the SDO
 // reply last made.
 #[repr(C)]
-#[derive(Drop)]
+#[derive(Clone, Copy)]
 pub struct Core {
     pub nmt: Nmt,
     pub announced: bool,
@@ -62,7 +65,7 @@ pub struct Core {
 
 // A head is made by `power_up` and altered by the calls only: the promises are for such heads, and each call leaves one.
 #[repr(C)]
-#[derive(Drop)]
+#[derive(Clone, Copy)]
 pub struct Head {
     pub line: Line,
     pub transfer: Transfer,
@@ -72,7 +75,7 @@ pub struct Head {
 // The number of a refusal, 0 for none, and the head, which a refused frame or sample leaves as it was.
 // Numbers 1 and 2 are `can::BAD_IDENTIFIER` and `can::BAD_LENGTH`, 0 is `can::NO_REFUSAL`.
 #[repr(C)]
-#[derive(Drop)]
+#[derive(Clone, Copy)]
 pub struct Answer {
     pub refusal: u8,
     pub head: Head,
@@ -80,7 +83,7 @@ pub struct Answer {
 
 // The frame to send, if one waited, and the head. If none waited the frame is all 0 and must not be sent.
 #[repr(C)]
-#[derive(Drop)]
+#[derive(Clone, Copy)]
 pub struct Sent {
     pub waited: bool,
     pub frame: Frame,
@@ -89,14 +92,14 @@ pub struct Sent {
 
 // What power-up is given.
 #[repr(C)]
-#[derive(Drop)]
+#[derive(Clone, Copy)]
 pub struct Setup {
     pub node: u8,
     pub identity: Identity,
 }
 
 // What the sensor gives.
-#[derive(Drop)]
+#[derive(Clone, Copy)]
 pub enum Sensor {
     Missing,
     Raw(u32),

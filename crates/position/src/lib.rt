@@ -1,5 +1,7 @@
 //! The position for a raw count, and the offset that a preset sets: 01, "Position".
 
+#![tactic(auto)]
+
 ghost use Rattle.std.specs.Prelude.{◌≡◌, ◌<◌, ◌≤◌, pos, ◌+ℤ◌, ◌-ℤ◌, nat_abs};
 ghost use Rattle.position.specs.Position.{bit, scaling_bit, direction_bit, measuring_steps, scaled_count, directed, modℤ, position, preset_to};
 ghost use Rattle.position.specs.Profile.{full_range, ValidProfile};
@@ -8,7 +10,7 @@ ghost use Rattle.position.specs.Worked.{Worked};
 
 /// The profile part of the settings: 6000h, 6002h, 6003h, 6005-1 and 6509h.
 #[repr(C)]
-#[derive(Drop)]
+#[derive(Clone, Copy)]
 pub struct Profile {
     pub operating: u32,
     pub range: u32,

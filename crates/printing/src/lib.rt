@@ -1,4 +1,7 @@
 //! What is printed: a frame, `-`, or a refusal, each as a line with its end, 0Ah. 01, "Worked numbers", "Session program".
+
+#![tactic(auto)]
+
 ghost use Rattle.std.specs.Prelude.{◌≡◌, ◌<◌};
 ghost use Rattle.text.specs.Lines.{line_of, pushed};
 ghost use Rattle.text.specs.Printed.{hex_of, digit_at, begun, frame_text, none_text, refusal_text};

@@ -1,4 +1,7 @@
 //! Builds the reply's eight bytes, and says what the request does: 01, "Service requests".
+
+#![tactic(auto)]
+
 ghost use Rattle.std.specs.Prelude.{◌≡◌};
 ghost use Rattle.sdo.specs.Reply.{framed as framedBy, command, no_reply, aborted, confirmed, segmented, shown_reply};
 

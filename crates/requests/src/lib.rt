@@ -1,4 +1,7 @@
 //! Takes a request's eight bytes apart: a read, a write, or an unknown command. 01, "Service requests".
+
+#![tactic(auto)]
+
 ghost use Rattle.std.specs.Prelude.{◌≡◌};
 ghost use Rattle.sdo.specs.Request.{is_abort, is_segment, toggle_in, index_of, data_of, said_length, taken_apart};
 

@@ -1,5 +1,7 @@
 //! Example runs of node 1, by calls from power-up. They meet the conditions of the promises, and show what is then sent. No code.
 
+#![tactic(auto)]
+
 ghost use Rattle.runs.specs.Busy.{Busy};
 ghost use Rattle.runs.specs.Codes.{CodesMet};
 ghost use Rattle.runs.specs.Effects.{MetWhenReady};

@@ -1,4 +1,7 @@
 //! What a sample changes: the reading, the count of the error list, the waiting line. 01, "States" and "The waiting line".
+
+#![tactic(auto)]
+
 ghost use Rattle.std.specs.Prelude.{◌≡◌};
 ghost use Rattle.parts.specs.declared.Sensor.TheVariants.{Raw};
 ghost use Rattle.promises.specs.Calls.{bad_sample};
@@ -14,7 +17,7 @@ pub const HIGHEST_RAW: u32 = 1_048_575;
 
 const MOST_ERRORS: u32 = 4;
 
-#[derive(Drop)]
+#[derive(Clone, Copy)]
 pub struct Sampled {
     pub refusal: u8,
     pub reading: Reading,
@@ -75,7 +78,7 @@ fn found(
     waiting::join_if(line, alerts, EMERGENCY)
 }
 
-#[derive(Drop)]
+#[derive(Clone, Copy)]
 pub struct Missed {
     pub reading: Reading,
     pub errors: u32,

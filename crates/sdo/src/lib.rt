@@ -1,5 +1,8 @@
 //! The SDO server: a request's eight bytes, the reply due, what the write does (01, "Service requests"), and the
 //! segments in which a name is read (change request 1/13). Types, definitions and laws; crates above have the code.
+
+#![tactic(auto)]
+
 ghost use Rattle.std.specs.Prelude.{Bool, List, ℕ};
 ghost use Rattle.names.specs.declared.Transfer.{Transfer};
 ghost use Rattle.entries.specs.declared.Device.{Device};

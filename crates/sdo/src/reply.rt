@@ -4,7 +4,7 @@ use names::Transfer;
 
 // What a request does: nothing (the client's abort, which only ends a transfer), its reply waits, or its reply waits and what
 // has the name `key` gets a value: for a setting the key of its own entry.
-#[derive(Drop)]
+#[derive(Clone, Copy)]
 pub enum Effect {
     Nothing,
     Reply,
@@ -12,7 +12,7 @@ pub enum Effect {
 }
 
 // The bytes are 0 if there is no reply. `transfer` is the one that runs after the request.
-#[derive(Drop)]
+#[derive(Clone, Copy)]
 pub struct Served {
     pub bytes: Bytes,
     pub effect: Effect,

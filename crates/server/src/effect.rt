@@ -13,7 +13,7 @@ use position::Profile;
 use waiting::{EMPTY, Line, SDO_REPLY};
 
 // The reply waits, and nothing else changes: an emergency that may wait waits already.
-#[derive(Drop)]
+#[derive(Clone, Copy)]
 pub struct Replied {
     pub reply: Bytes,
     pub line: Line,
@@ -28,7 +28,7 @@ pub fn reply(line: Line, reply: Bytes) -> Replied
     }
 }
 
-#[derive(Drop)]
+#[derive(Clone, Copy)]
 pub struct Emptied {
     pub errors: u32,
     pub reply: Bytes,
@@ -45,7 +45,7 @@ pub fn empty(line: Line, reply: Bytes) -> Emptied
     }
 }
 
-#[derive(Drop)]
+#[derive(Clone, Copy)]
 pub struct Saved {
     pub saved: Settings,
     pub reply: Bytes,
@@ -72,7 +72,7 @@ fn kept(node: u8, settings: Settings, key: u32) -> Settings
     Settings::factory(node)
 }
 
-#[derive(Drop)]
+#[derive(Clone, Copy)]
 pub struct Scaled {
     pub profile: Profile,
     pub reply: Bytes,
@@ -90,7 +90,7 @@ pub fn scale(profile: Profile, raw: u32, line: Line, reply: Bytes, key: u32, val
     }
 }
 
-#[derive(Drop)]
+#[derive(Clone, Copy)]
 pub struct Configured {
     pub communication: Communication,
     pub timers: Timers,

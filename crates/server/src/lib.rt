@@ -1,4 +1,7 @@
 //! The SDO server of a head: its identifiers, which requests it serves, and what they change. 01, "Service requests".
+
+#![tactic(auto)]
+
 ghost use Rattle.std.specs.Prelude.{◌≡◌, not, ◌&&◌, ◌+◌, eqb};
 ghost use Rattle.promises.specs.States.{live};
 ghost use Rattle.server.specs.Replies.{reply_frame};
@@ -13,7 +16,7 @@ const REQUEST_LENGTH: u8 = 8;
 const REPLY_LENGTH: u8 = 8;
 
 // The identifiers of requests and replies, to which the node number is added; the kind of its reply.
-#[derive(Drop)]
+#[derive(Clone, Copy)]
 pub struct Server {
     pub request: u32,
     pub reply: u32,

@@ -1,4 +1,7 @@
 //! The SDO server: from a request's eight bytes to the reply's, to what the write does, and to the transfer of a name. 01, "Service requests".
+
+#![tactic(auto)]
+
 ghost use Rattle.std.specs.Prelude.{◌≡◌};
 ghost use Rattle.position.specs.Profile.{ValidProfile};
 ghost use Rattle.sdo.specs.Steps.{entry_reply, reply_to};

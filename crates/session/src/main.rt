@@ -1,4 +1,7 @@
 //! The session program: standard input to standard output; a read or a write that fails is reported on standard error.
+
+#![tactic(auto)]
+
 ghost use Rattle.std.specs.Prelude.{◌≤◌, length};
 ghost use Rattle.promises.specs.Valid.{Valid};
 
@@ -8,7 +11,7 @@ use transcript::Session;
 // The most that 4,096 bytes of input print: 64 for each.
 const ROOM: usize = 262_144;
 
-#[derive(Drop)]
+#[derive(Clone, Copy)]
 struct After {
     more: bool,
     session: Session,

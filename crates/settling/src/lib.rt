@@ -1,4 +1,7 @@
 //! Which kinds join the waiting line: those that are due and may join. 01, "The waiting line".
+
+#![tactic(auto)]
+
 ghost use Rattle.std.specs.Prelude.{◌≡◌};
 ghost use Rattle.settling.specs.Joined.{joined_by};
 

@@ -1,4 +1,7 @@
 //! Tests for the NMT state that a head is in: 01, "States".
+
+#![tactic(auto)]
+
 ghost use Rattle.std.specs.Prelude.{◌≡◌, eqb};
 ghost use Rattle.promises.specs.States.{initialising_code, code, CommandedState, live};
 

@@ -40,7 +40,7 @@ const MOST_SYNC_LENGTH: u8 = 1;
 
 // What a frame means: the refusal number, the transfer that it leaves, the way, and what the way needs: the state to enter, whether all
 // settings are reset, the reply that waits, the name of what is written and its value.
-#[derive(Drop)]
+#[derive(Clone, Copy)]
 pub struct Heard {
     pub refusal: u8,
     pub transfer: Transfer,

@@ -2,6 +2,8 @@
 //! line". A step takes the parts that it needs and gives back those that it changes; the call then stores them
 //! in the head, once. Where a call can go several ways, its first step answers the way's number, 0 for none.
 
+#![tactic(auto)]
+
 ghost use Rattle.steps.specs.Passes.{Laws};
 
 pub mod hear;

@@ -21,13 +21,13 @@ pub const SENDS: u8 = 3;
 
 // The frame to send, if one waited. Otherwise it is all 0 and must not be sent.
 #[repr(C)]
-#[derive(Drop)]
+#[derive(Clone, Copy)]
 pub struct Outgoing {
     pub waited: bool,
     pub frame: Frame,
 }
 
-#[derive(Drop)]
+#[derive(Clone, Copy)]
 pub struct Slotted {
     pub outgoing: Outgoing,
     pub way: u8,
@@ -109,7 +109,7 @@ fn none() -> Frame
     }
 }
 
-#[derive(Drop)]
+#[derive(Clone, Copy)]
 pub struct Booted {
     pub nmt: Nmt,
     pub line: Line,
@@ -125,7 +125,7 @@ pub fn boot(emergency: u32, good: bool) -> Booted
     }
 }
 
-#[derive(Drop)]
+#[derive(Clone, Copy)]
 pub struct Announced {
     pub announced: bool,
     pub inhibit: u32,
@@ -145,7 +145,7 @@ pub fn announce(inhibit: u32, good: bool, line: Line) -> Announced
     }
 }
 
-#[derive(Drop)]
+#[derive(Clone, Copy)]
 pub struct Taken {
     pub line: Line,
 }

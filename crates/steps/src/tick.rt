@@ -9,7 +9,7 @@ use waiting::Flags;
 // The way of a tick at which some kind may join.
 pub const SETTLES: u8 = 1;
 
-#[derive(Drop)]
+#[derive(Clone, Copy)]
 pub struct Ticked {
     pub timers: Timers,
     pub way: u8,

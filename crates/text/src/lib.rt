@@ -1,5 +1,8 @@
 //! The text of the session program: what a line says, how a line is gathered byte by
 //! byte, what is printed. 01, "Worked numbers". Types, definitions and laws, no code.
+
+#![tactic(auto)]
+
 ghost use Rattle.text.specs.Forms.{Forms};
 ghost use Rattle.text.specs.Laws.{Laws};
 ghost use Rattle.text.specs.Worked.{Worked};
@@ -10,7 +13,7 @@ use can::Bytes;
 pub const LONGEST: usize = 64;
 
 // The first bytes of a line, `len` of them, and whether there were more.
-#[derive(Drop)]
+#[derive(Clone, Copy)]
 pub struct Line {
     pub bytes: [u8; LONGEST],
     pub len: usize,
@@ -18,7 +21,7 @@ pub struct Line {
 }
 
 // What a line says. `Malformed`: it is not of its form.
-#[derive(Drop)]
+#[derive(Clone, Copy)]
 pub enum Command {
     Malformed,
     Frame { identifier: u32, length: u8 },
@@ -29,7 +32,7 @@ pub enum Command {
 }
 
 // An enum cannot hold an array, so the bytes of a frame stand beside it; unused ones are 0.
-#[derive(Drop)]
+#[derive(Clone, Copy)]
 pub struct Parsed {
     pub command: Command,
     pub bytes: Bytes,

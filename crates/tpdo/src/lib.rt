@@ -1,4 +1,7 @@
 //! The transmit PDOs and SYNC: PDO types, what a PDO counts, when it is due, its frame. 01, "The waiting line".
+
+#![tactic(auto)]
+
 ghost use Rattle.std.specs.Prelude.{◌≡◌};
 ghost use Rattle.can.specs.Number.{low_first};
 ghost use Rattle.position.specs.Position.{position};

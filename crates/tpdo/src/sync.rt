@@ -9,7 +9,7 @@ use parts::{Clock, Fixed, Nmt, Timers};
 use position::Profile;
 use waiting::{Line, TPDO1, TPDO2};
 
-#[derive(Drop)]
+#[derive(Clone, Copy)]
 pub struct Synced {
     pub timers: Timers,
     pub fixed: Fixed,

@@ -1,4 +1,7 @@
 //! What each entry reads: 01, "Entries".
+
+#![tactic(auto)]
+
 ghost use Rattle.std.specs.Prelude.{◌≡◌, not, cond, ◌+◌, ◌<◌};
 ghost use Rattle.position.specs.Profile.{ValidProfile};
 ghost use Rattle.entries.specs.Identity.{name_of};

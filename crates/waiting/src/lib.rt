@@ -1,5 +1,7 @@
 //! The waiting line: the kinds of frames that wait, first to last. 01, "The waiting line".
 
+#![tactic(auto)]
+
 ghost use Rattle.std.specs.Prelude.{◌≡◌, ◌||◌, cond, [], ◌∷◌, eqb, take, ℕ};
 ghost use Rattle.cases.specs.Padded.{pad};
 ghost use Rattle.waiting.specs.Line.{places, order, has, first as first_of};

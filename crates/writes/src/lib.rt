@@ -1,4 +1,7 @@
 //! What an accepted write changes in the settings: 01, "Entries" and "Position".
+
+#![tactic(auto)]
+
 ghost use Rattle.std.specs.Prelude.{◌≡◌, cond};
 ghost use Rattle.position.specs.Profile.{ValidProfile};
 ghost use Rattle.dictionary.specs.Writes.{pdo_after, communication_after, range_for, rescaled_to, profile_after, saved_after, Fits, put};
