@@ -1,6 +1,6 @@
 -- The first byte of a segment by its bits, and a list in places by its front and its zeros. Assumes nothing.
 use Prim.Native.Nat.{ℕ, zero, suc, ◌+◌, ◌*◌, ◌-◌, ◌/◌, ◌%◌, ◌<◌, ◌≤◌}
-use native.Mathlib.Nat.{zero-sub, sub_zero, suc-sub-suc}
+use native.Mathlib.Nat.{zero-sub, sub-zero, suc-sub-suc}
 use native.Mathlib.Omega.{arith}
 use mathlib.Core.Path.{◌≡◌, refl, ap}
 use mathlib.Core.Bool.{cond}
@@ -42,7 +42,7 @@ zeros (suc n) = ap {B = List ℕ} (λ r. 0 ∷ r) (zeros n)
 -- the front of the list, and 0 in the places that it does not reach
 pub pad_split : (n : ℕ) (l : List ℕ) → pad n l ≡ take n l ++ replicate (n - length l) 0
 pad_split zero l = rw zero-sub
-pad_split (suc n) [] = rw sub_zero (zeros (suc n))
+pad_split (suc n) [] = rw sub-zero (zeros (suc n))
 pad_split (suc n) (x ∷ l) = rw suc-sub-suc (ap {B = List ℕ} (λ r. x ∷ r) (pad_split n l))
 
 -- the places that it reaches

@@ -1,6 +1,6 @@
 -- Whole numbers by their sign, for code that tests `0 <= z` and then uses unsigned numbers. Assumes nothing.
 use Prim.Native.Nat.{ℕ, zero, suc, ◌+◌, ◌-◌, ◌%◌, ◌≤◌, ◌<◌, ◌^◌, zero-le}
-use native.Mathlib.Nat.{mod-eq_of_lt, add-mod_right, add-zero, sub_zero}
+use native.Mathlib.Nat.{mod-eq_of_lt, add-mod_right, add-zero, sub-zero}
 use native.Mathlib.Omega.{arith}
 use mathlib.Core.Path.{◌≡◌, refl, sym, subst, ◌∙◌, ap}
 use mathlib.Core.Bool.{true, false}
@@ -50,7 +50,7 @@ minus_sum (negsuc n) d t e h = shifted d (suc n) t h
 
 -- a less b, as the code computes it
 difference : (a b : ℕ) → pos a -ℤ pos b ≡ sub_ℕ a b
-difference a zero = rw (le-ltb a 0 zero-le, add-zero a, sub_zero a)
+difference a zero = rw (le-ltb a 0 zero-le, add-zero a, sub-zero a)
 difference a (suc b) = refl
 
 -- if both are below k, so is their difference without its sign

@@ -1,6 +1,6 @@
 -- Proves `ByEntries` of specs/ByEntries.antt.
 use Prim.Native.Nat.{ℕ, zero, suc, ◌+◌, ◌-◌, ◌*◌, ◌/◌, ◌%◌, ◌≤◌, ◌<◌, zero-le}
-use native.Mathlib.Nat.{add-zero, sub_zero, mod-eq_of_lt, mod-add-div'}
+use native.Mathlib.Nat.{add-zero, sub-zero, mod-eq_of_lt, mod-add-div'}
 use native.Mathlib.Omega.{arith}
 use lib.Dec.{eqb, ltb}
 use lib.IntN.{ℤ, pos, negsuc, ◌+ℤ◌, ◌-ℤ◌, nat_abs}
@@ -147,7 +147,7 @@ plain x s o z l = rw (o, z, mod-eq_of_lt l, add-zero s, mod-eq_of_lt l)
 
 -- v − d, as 6509h reads it
 offset_by_law : (v d : ℕ) → d ≤ 0x100000000 → twos (pos v -ℤ pos d) ≡ offset_by v d
-offset_by_law v zero l = rw (le-ltb v 0 zero-le, add-zero v, sub_zero v)
+offset_by_law v zero l = rw (le-ltb v 0 zero-le, add-zero v, sub-zero v)
 offset_by_law v (suc d) l =
     test (ltb v (suc d)) (λ e. let u = ltb-true v (suc d) e in rw e (omega (arith, u, l))) (λ e. rw e)
 

@@ -2,7 +2,7 @@
 use mathlib.Core.Path.{◌≡◌, refl, sym, ◌∙◌}
 use mathlib.Core.List.{List, [], ◌∷◌, ◌++◌}
 use Prim.Native.Nat.{ℕ, zero, suc, ◌-◌, ◌≤◌}
-use native.Mathlib.Nat.{not-suc-le-zero, le_of_suc-le-suc, sub_zero}
+use native.Mathlib.Nat.{not-suc-le-zero, le_of_suc-le-suc, sub-zero}
 use native.Mathlib.Omega.{arith}
 use lib.Dec.{ltb}
 use lib.ListN.{length, take, replicate}
@@ -22,7 +22,7 @@ pad_nil zero = refl
 pad_nil (suc n) = rw (pad_nil n)
 
 pub pad_behind : (n : ℕ) (l : List ℕ) → length l ≤ n → pad n l ≡ l ++ replicate (n - length l) 0
-pad_behind n [] h = rw sub_zero (pad_nil n)
+pad_behind n [] h = rw sub-zero (pad_nil n)
 pad_behind zero (x ∷ l) h = absurd (not-suc-le-zero h)
 pad_behind (suc n) (x ∷ l) h =
     let e : suc n - suc (length l) ≡ n - length l = omega arith in

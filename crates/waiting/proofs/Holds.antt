@@ -100,11 +100,11 @@ holds_taken {n} {l} {ws} h = rw (holds_first h, ← withdraw_first n ws h.kinds)
 
 pub holds_withdraws : {n : ℕ} {l ws : List ℕ} (ks : List ℕ) → Holds n l ws → Holds n (withdraws_in l ks) (withdraws ws ks)
 holds_withdraws [] h = h
-holds_withdraws (k ∷ ks) h = holds_withdraws ks (holds_withdraw h k)
+holds_withdraws {l = l} (k ∷ ks) h = holds_withdraws {l = withdraw_in l k} ks (holds_withdraw h k)
 
 holds_joins : {n : ℕ} {l ws ks : List ℕ} → Named n ks → Holds n l ws → Holds n (joins_in l ks) (joins ws ks)
 holds_joins none h = h
-holds_joins (more {k = k} pos top m) h = holds_joins m (holds_join h k pos top)
+holds_joins {l = l} (more {k = k} pos top m) h = holds_joins {l = join_in l k} m (holds_join h k pos top)
 
 pub holds_after : {n : ℕ} {l ws : List ℕ} (slot : Bool) (out into : List ℕ) → Named n into → Holds n l ws
     → Holds n (after_in slot out into l) (after slot out into ws)

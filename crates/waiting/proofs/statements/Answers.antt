@@ -3,11 +3,7 @@ use Rattle.waiting.proofs.Lines.{lines}
 use Rattle.waiting.proofs.Laws.{laws, in_turn}
 use Rattle.waiting.proofs.Plain.{by_slot_n, example}
 use Rattle.waiting.proofs.Worked.{worked}
-use Rattle.waiting.proofs.statements.Statement.{statement}
-use Rattle.waiting.proofs.statements.Tie as tie
+use Rattle.waiting.proofs.statements.Goals as goal
 
-returns : tie.Need-returns
+pub returns : goal.returns
 returns c = (lines, laws, in_turn, by_slot_n, example, worked)
-
-pub statements-spec : {M : Type 1} → statement M
-statements-spec = tie.close (tie.spec returns)

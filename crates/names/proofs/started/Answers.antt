@@ -1,0 +1,6 @@
+-- `started` meets its contract, by that of `number`.
+use borrow.Author.Rules.{rules}
+use Rattle.names.proofs.started.Goals as goal
+
+pub returns : goal.returns
+returns c = rw c.number.ensures

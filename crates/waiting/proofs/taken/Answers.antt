@@ -1,0 +1,7 @@
+-- `taken` meets its contract: of a proper line, each moves up one place.
+use borrow.Author.Rules.{rules}
+use Rattle.waiting.proofs.Unmoved.{shifts}
+use Rattle.waiting.proofs.taken.Goals as goal
+
+pub returns : goal.returns
+returns c = shifts c.requires
