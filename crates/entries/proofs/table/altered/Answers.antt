@@ -10,9 +10,9 @@ use Rattle.entries.specs.declared.table.Source.TheVariants.{Fixed, Setting, Regi
 use Rattle.entries.specs.declared.table.Source.TheVariants.{Vendor, Product, Revision, Serial, Position, Status, Offset}
 use Rattle.entries.specs.Table.{alters}
 use Rattle.entries.specs.contracts.table.Source.{the_type}
-use Rattle.entries.proofs.table.altered.Statement.{statement}
-use Rattle.entries.proofs.table.altered.Tie as tie
+use Rattle.entries.proofs.table.altered.Goals as goal
 
+-- `table::altered` meets its contract: a setting names its own entry, every other source the entry itself.
 -- the variants but `Setting`
 abbrev others : List ℕ
 others = 0 ∷ 2 ∷ 3 ∷ 4 ∷ 5 ∷ 6 ∷ 7 ∷ 8 ∷ 9 ∷ 10 ∷ 11 ∷ []
@@ -31,14 +31,5 @@ its_own Position k h = refl
 its_own Status k h = refl
 its_own Offset k h = refl
 
-enum-known-source : tie.Need-enum-known-source
-enum-known-source c = search rules
-
-returns : tie.Need-returns
-returns c = its_own c.before.args.row.5 c.before.args.row.0 c.match.keys2
-
-returns-2 : tie.Need-returns-2
-returns-2 c = search rules
-
-pub altered-spec : {M : Type 1} → statement M
-altered-spec = tie.close (tie.spec enum-known-source returns returns-2)
+pub returns-in_default : goal.returns-in_default
+returns-in_default c = its_own c.args.row.5 c.args.row.0 c.in_default.keys2
