@@ -5,12 +5,7 @@ use Rattle.dictionary.proofs.ReadLaws.{read_laws}
 use Rattle.dictionary.proofs.Laws.{laws}
 use Rattle.dictionary.proofs.Effects.{effect_laws}
 use Rattle.dictionary.proofs.Worked.{worked}
-use Rattle.dictionary.proofs.statements.Statement.{statement}
-use Rattle.dictionary.proofs.statements.Tie as tie
+use Rattle.dictionary.proofs.statements.Goals as goal
 
--- src/lib.rt:13:1
-returns : tie.Need-returns
+pub returns : goal.returns
 returns c = (accepted_laws, valid_laws, write_laws, read_laws, laws, effect_laws, worked)
-
-pub statements-spec : {M : Type 1} → statement M
-statements-spec = tie.close (tie.spec returns)
