@@ -2,11 +2,7 @@
 use Rattle.sdo.proofs.Laws.{laws}
 use Rattle.sdo.proofs.UploadLaws.{uploads}
 use Rattle.sdo.proofs.Worked.{worked}
-use Rattle.sdo.proofs.statements.Statement.{statement}
-use Rattle.sdo.proofs.statements.Tie as tie
+use Rattle.sdo.proofs.statements.Goals as goal
 
-returns : tie.Need-returns
+pub returns : goal.returns
 returns c = (laws, uploads, worked)
-
-pub statements-spec : {M : Type 1} → statement M
-statements-spec = tie.close (tie.spec returns)
