@@ -162,6 +162,7 @@ fn row_of(key: u32) -> Row
 
 // The list, one line for each entry, in index order: key, type, access, accepted values, when it is blank,
 // where its number comes from. Here 1000h to 1018h.
+#[tactic(auto, unfolding(crate::specs::Table::table, crate::specs::Table::row_of_key))]
 fn from_1000(k: u32) -> Row
     requires { k < 0x1800_00 }
     ensures { result ≡ row_of_key k }
@@ -195,6 +196,7 @@ fn from_1000(k: u32) -> Row
 }
 
 // The list from 1800h on.
+#[tactic(auto, unfolding(crate::specs::Table::table, crate::specs::Table::row_of_key))]
 fn from_1800(k: u32) -> Row
     requires { 0x1800_00 ≤ k }
     ensures { result ≡ row_of_key k }

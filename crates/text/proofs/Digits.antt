@@ -102,7 +102,7 @@ module _ (base : ℕ) (few : base ≤ 16) where
       let (first, rest) = both (ltb (digit_of x) base) (digits base xs) e in
       let h : digit_of x < base = ltb-true _ _ first in
       let q : k + suc (length xs) ≡ suc k + length xs = omega arith in
-      rw q (rw (append_assoc begun (x ∷ []) xs) at (number_from_law xs (more p (digit_of_law x (omega arith)) h) rest))
+      rw q (rw (append_assoc begun (x ∷ []) xs) at (number_from_law {k = suc k} xs (more p (digit_of_law x (omega arith)) h) rest))
 
   pub number_of : (w : List ℕ) → digits base w ≡ true → Number base (length w) w (value base w)
   number_of w e = rw zero-add at (number_from_law w none e)

@@ -12,14 +12,9 @@ use Rattle.entries.specs.Table.{alters}
 use Rattle.entries.specs.contracts.table.Source.{the_type}
 use Rattle.entries.proofs.table.altered.Goals as goal
 
--- `table::altered` meets its contract: a setting names its own entry, every other source the entry itself.
--- the variants but `Setting`
-abbrev others : List ℕ
-others = 0 ∷ 2 ∷ 3 ∷ 4 ∷ 5 ∷ 6 ∷ 7 ∷ 8 ∷ 9 ∷ 10 ∷ 11 ∷ []
-
-its_own : (s : Source) (k : ℕ) → OneOf others (tag_of the_type s) → k ≡ alters s k
+its_own : (s : Source) (k : ℕ) → ((x : ℕ) → s ≡ Setting x → ⊥) → k ≡ alters s k
 its_own (Fixed n) k h = refl
-its_own (Setting n) k h = absurd (miss others 1 tt h)
+its_own (Setting n) k h = absurd (h n refl)
 its_own Register k h = refl
 its_own ErrorCount k h = refl
 its_own (Name n) k h = refl
@@ -32,4 +27,4 @@ its_own Status k h = refl
 its_own Offset k h = refl
 
 pub returns-in_default : goal.returns-in_default
-returns-in_default c = its_own c.args.row.5 c.args.row.0 c.in_default.keys2
+returns-in_default c = its_own c.args.row.5 c.args.row.0 c.in_default.not-Setting

@@ -12,7 +12,6 @@ use Rattle.entries.proofs.Found.{finds}
 use Rattle.entries.proofs.Search.{there, not_there, no_first}
 use Rattle.entries.proofs.table.find.Goals as goal
 
--- `table::find` meets its contract: the row is there, or the row of sub-index 0 tells whether the index is.
 -- The sub-index asked for, or after it 0.
 -- the row r that was sought for the sub-index a
 module _ (i j a k : ℕ) (r : Row) (e : k ≡ key_of i a) (f : r ≡ row_of_key k) where

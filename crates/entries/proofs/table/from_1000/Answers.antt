@@ -6,7 +6,6 @@ use Rattle.entries.specs.Table.{table, row_of_key}
 use Rattle.entries.proofs.Search.{absent_low}
 use Rattle.entries.proofs.table.from_1000.Goals as goal
 
--- `table::from_1000` meets its contract: a line of the list for each key, and no row for any other of its half.
 abbrev keys : List ℕ
 keys =
     0x1018_04 ∷ 0x1018_03 ∷ 0x1018_02 ∷ 0x1018_01 ∷ 0x1018_00 ∷ 0x1017_00 ∷ 0x1015_00 ∷ 0x1014_00 ∷ 0x1011_01 ∷
@@ -15,4 +14,4 @@ keys =
 
 pub returns-in_default : goal.returns-in_default
 unfolding table
-returns-in_default c = absent_low 0x1800_00 keys _ c.requires refl c.in_default.rest
+returns-in_default c = absent_low 0x1800_00 keys _ c.requires refl c.in_default.in_default-own.rest

@@ -6,7 +6,6 @@ use Rattle.entries.specs.Table.{table, row_of_key}
 use Rattle.entries.proofs.Search.{absent_high}
 use Rattle.entries.proofs.table.from_1800.Goals as goal
 
--- `table::from_1800` meets its contract: a line of the list for each key, and no row for any other of its half.
 abbrev keys : List ℕ
 keys =
     0x6509_00 ∷ 0x6504_00 ∷ 0x6503_00 ∷ 0x6501_00 ∷ 0x6500_00 ∷ 0x6200_00 ∷ 0x6005_01 ∷ 0x6005_00 ∷ 0x6004_00 ∷
@@ -15,4 +14,4 @@ keys =
 
 pub returns-in_default : goal.returns-in_default
 unfolding table
-returns-in_default c = absent_high 0x1800_00 keys _ c.requires refl c.in_default.rest
+returns-in_default c = absent_high 0x1800_00 keys _ c.requires refl c.in_default.in_default-own.rest
