@@ -12,11 +12,13 @@ use Rattle.runs.proofs.Starts.{starts_met}
 use Rattle.runs.proofs.Names.{naming}
 use Rattle.runs.proofs.SyncFrames.{fixed_at_sync}
 use Rattle.runs.proofs.Rounding.{rounding}
-use Rattle.runs.proofs.statements.Statement.{statement}
-use Rattle.runs.proofs.statements.Tie as tie
+use Rattle.runs.proofs.statements.Goals as goal
 
-returns : tie.Need-returns
-returns c = (
+)
+
+pub returns : goal.returns
+returns c =
+    (
   full_line,
   busy_line_law,
   joining,
@@ -32,7 +34,3 @@ returns c = (
   naming,
   fixed_at_sync,
   rounding,
-)
-
-pub statements-spec : {M : Type 1} → statement M
-statements-spec = tie.close (tie.spec returns)
