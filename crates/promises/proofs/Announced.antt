@@ -26,7 +26,7 @@ use Rattle.promises.proofs.Histories.{at_power_up, valid_powered}
 
 last_append : (n : ℕ) (last : Option Frame) (xs ys : List Frame) → last_after n last (xs ++ ys) ≡ last_after n (last_after n last xs) ys
 last_append n last [] ys = refl
-last_append n last (f ∷ xs) ys = last_append n _ xs ys
+last_append n last (f ∷ xs) ys = last_append n (last_after n last (f ∷ [])) xs ys
 
 -- Outside Initialising, what counts as announced is what was said last. (In Initialising the boot-up frame, still to come, starts again.)
 abbrev Announced : ℕ → Option Frame → Core → Type 0

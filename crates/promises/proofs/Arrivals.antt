@@ -66,6 +66,9 @@ module _ (n : ℕ) (h : Head) (v : Valid h) (e : node h.core ≡ n) where
       (λ i. i)
 
   not_taken : (c : Call) → Between n c → waits h sdo_reply ≡ true → Withdrawal h c sdo_reply → ⊥
+  not_taken tick b w x3 = elim x3 [ ]
+  not_taken (sample _) b w x5 = elim x5 [ ]
+  not_taken slot b w x5 = elim x5 [ ]
   not_taken (receive f) b w (resets {r = r} m) = unhalted (receive f) b (subst Halts (sym (commands h f m)) (resetting r))
   not_taken (receive f) b w (stops m _) =
       let so = commands h f m ∙ ap (λ (t : Bool). cond t nothing (enter stopped)) (moving (v.only sdo_reply w)) in

@@ -74,6 +74,14 @@ module _ (n : ℕ) (h : Head) (q : node h.core ≡ n) (v : Valid h) (s : Sensor)
 
   -- an emergency frame is the emergency's
   by_act : (a : Act) → AtSlot h a → is_frame (frame_by c a) ≡ true → (frame_in (frame_by c a)).identifier ≡ 0x80 + n → IsFirst emergency h
+  by_act nothing x4 w x = elim x4 [ ]
+  by_act (enter _) x6 w x = elim x6 [ ]
+  by_act (reset _) x7 w x = elim x7 [ ]
+  by_act (take _) x8 w x = elim x8 [ ]
+  by_act lose x8 w x = elim x8 [ ]
+  by_act time x9 w x = elim x9 [ ]
+  by_act sync x10 w x = elim x10 [ ]
+  by_act (serve _) x12 w x = elim x12 [ ]
   by_act boot (booting i) w x = true_false (sym (eq-eqb _ _ x) ∙ (known_boot_up n c q v.device).emergency)
   by_act idle (idling i z) w x = true_false (sym w)
   by_act (send k) (sending _ i f z) w x =
@@ -124,6 +132,14 @@ module _ (n : ℕ) (h : Head) (q : node h.core ≡ n) (v : Valid h) (s : Sensor)
   told_sent (tpdo w) m = rw (known n c q v.device (tpdo w) m).emergency
 
   told_slot : (a : Act) → AtSlot h a → Told a
+  told_slot nothing x' = elim x' [ ]
+  told_slot (enter _) x3 = elim x3 [ ]
+  told_slot (reset _) x4 = elim x4 [ ]
+  told_slot (take _) x5 = elim x5 [ ]
+  told_slot lose x5 = elim x5 [ ]
+  told_slot time x6 = elim x6 [ ]
+  told_slot sync x7 = elim x7 [ ]
+  told_slot (serve _) x9 = elim x9 [ ]
   told_slot boot (booting i) = rw (known_boot_up n c q v.device).emergency
   told_slot idle (idling i z) = refl
   told_slot (send k) (sending _ i f z) = told_sent k (v.only k z)

@@ -16,7 +16,7 @@ use Rattle.waiting.proofs.Slots.{demand3}
 use Rattle.parts.specs.declared.Head.{Head}
 use Rattle.promises.specs.States.{is_initialising, node, communication, good, pdo}
 use Rattle.promises.specs.WaitingLine.{Kind, emergency, sdo_reply, heartbeat, tpdo, number, may_stay}
-use Rattle.promises.specs.Acts.{Act, boot, idle, send, frame_by}
+use Rattle.promises.specs.Acts.{Act, boot, idle, send, frame_by, enter, lose, nothing, reset, serve, sync, take, time}
 use Rattle.promises.specs.Calls.{Call, slot, meant, step, is_frame, frame_in, slot_answer}
 use Rattle.promises.specs.Valid.{waits, Valid}
 use Rattle.promises.specs.Histories.{after, slots}
@@ -92,6 +92,14 @@ answers : (h : Head) → Valid h → Answered h (is_frame (slot_answer h)) (fram
 answers h v = by_act (meant h slot) (at_slot h v)
   where
     by_act : (a : Act) → AtSlot h a → Answered h (is_frame (frame_by h.core a)) (frame_in (frame_by h.core a))
+    by_act nothing x' = elim x' [ ]
+    by_act (enter _) x3 = elim x3 [ ]
+    by_act (reset _) x4 = elim x4 [ ]
+    by_act (take _) x5 = elim x5 [ ]
+    by_act lose x5 = elim x5 [ ]
+    by_act time x6 = elim x6 [ ]
+    by_act sync x7 = elim x7 [ ]
+    by_act (serve _) x9 = elim x9 [ ]
     by_act boot (booting i) = boot_up i (none_waits h v i)
     by_act idle (idling i e) = none i e
     by_act (send k) (sending j i e w) = kind k i e

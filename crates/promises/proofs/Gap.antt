@@ -27,7 +27,7 @@ use Rattle.promises.proofs.FiveSlots.{five_slots}
 use Rattle.promises.proofs.Histories.{after_append, valid_after, valid_powered}
 use Rattle.promises.proofs.Inhibit.{inhibit_left, rounded_up}
 use Rattle.promises.proofs.Unrelieved.{Pending, pending_may, stays_told, stays_pending}
-use Rattle.promises.proofs.Hidden.{no_more_positions, no_position_at_first}
+use Rattle.promises.proofs.Unshown.{no_more_positions, no_position_at_first}
 use Rattle.promises.proofs.Silent.{silent_once_told}
 use Rattle.promises.proofs.Known.{known, known_boot_up}
 use Rattle.promises.proofs.SameNode.{node_step, node_after, node_powered}

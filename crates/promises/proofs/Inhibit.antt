@@ -71,6 +71,14 @@ module _ (n : ℕ) (h : Head) (q : node h.core ≡ n) (v : Valid h) where
   left_sent (tpdo w) m = rw (known n c q v.device (tpdo w) m).emergency
 
   left_slot : (a : Act) → AtSlot h a → Left a
+  left_slot nothing x' = elim x' [ ]
+  left_slot (enter _) x3 = elim x3 [ ]
+  left_slot (reset _) x4 = elim x4 [ ]
+  left_slot (take _) x5 = elim x5 [ ]
+  left_slot lose x5 = elim x5 [ ]
+  left_slot time x6 = elim x6 [ ]
+  left_slot sync x7 = elim x7 [ ]
+  left_slot (serve _) x9 = elim x9 [ ]
   left_slot boot (booting i) = rw (known_boot_up n c q v.device).emergency (sym (none_runs i))
   left_slot idle (idling i e) = refl
   left_slot (send k) (sending j i e w) = left_sent k (v.only k w)

@@ -72,6 +72,14 @@ sent_waits h v (sample s) k e = absurd (unsendable h v (sample s) k refl e)
 sent_waits h v slot k e = by_act (meant h slot) (at_slot h v) e
   where
     by_act : (a : Act) → AtSlot h a → a ≡ send k → waits h k ≡ true
+    by_act nothing x4 q = elim x4 [ ]
+    by_act (enter _) x6 q = elim x6 [ ]
+    by_act (reset _) x7 q = elim x7 [ ]
+    by_act (take _) x8 q = elim x8 [ ]
+    by_act lose x8 q = elim x8 [ ]
+    by_act time x9 q = elim x9 [ ]
+    by_act sync x10 q = elim x10 [ ]
+    by_act (serve _) x12 q = elim x12 [ ]
     by_act boot (booting i) q = let z : ◌≡◌ {A = ℕ} 0 1 = cc in absurd (omega arith)
     by_act idle (idling i n) q = let z : ◌≡◌ {A = ℕ} 0 1 = cc in absurd (omega arith)
     by_act (send j) (sending _ i f w) q = let same : j ≡ k = cc in rw (← same) w

@@ -37,7 +37,7 @@ pub mod Inhibit
 pub mod Halts
 pub mod Readings
 pub mod Unrelieved
-pub mod Hidden
+pub mod Unshown
 pub mod Silent
 pub mod Gap
 pub mod ReplyJoins

@@ -73,6 +73,14 @@ module _ (h : Head) (n : Counts) (v : Valid h) (kept : Kept h.core n) where
 
   joins : (x : Call) (k : Kind) → Begins h n x k → waits (step h x) k ≡ true
   joins x emergency (alerting a) = (valid_step h x v).urgent (rw (a.live, a.is_on_law, a.uninhibited, a.differs))
+  joins tick sdo_reply x3 = elim x3 [ ]
+  joins (sample _) sdo_reply x5 = elim x5 [ ]
+  joins slot sdo_reply x5 = elim x5 [ ]
+  joins (receive f) heartbeat x4 = elim x4 [ ]
+  joins (sample _) heartbeat x6 = elim x6 [ ]
+  joins slot heartbeat x6 = elim x6 [ ]
+  joins (sample _) (tpdo w) x6 = elim x6 [ ]
+  joins slot (tpdo w) x6 = elim x6 [ ]
   joins (receive f) sdo_reply (replies r a) =
       let m : meant h (receive f) ≡ serve (answer f.bytes (due_to h f)) =
       requests h f v r ∙ rw ((uploads c.device (is_in operational c) h.transfer f.bytes).replied, a) in

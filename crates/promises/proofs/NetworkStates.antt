@@ -49,6 +49,14 @@ module _ (h : Head) (v : Valid h) where
   sent (tpdo w) = refl
 
   by_slot : (a : Act) → AtSlot h a → Enters h slot (After a) ⊎ (After a ≡ h.core.nmt)
+  by_slot nothing x' = elim x' [ ]
+  by_slot (enter _) x3 = elim x3 [ ]
+  by_slot (reset _) x4 = elim x4 [ ]
+  by_slot (take _) x5 = elim x5 [ ]
+  by_slot lose x5 = elim x5 [ ]
+  by_slot time x6 = elim x6 [ ]
+  by_slot sync x7 = elim x7 [ ]
+  by_slot (serve _) x9 = elim x9 [ ]
   by_slot boot (booting i) = inl (by_boot_up i)
   by_slot idle (idling i e) = inr refl
   by_slot (send k) (sending j i e w) = inr (sent k)
@@ -61,6 +69,8 @@ module _ (h : Head) (v : Valid h) where
   only_so slot = rw (core_step h slot) (by_slot (meant h slot) (at_slot h v))
 
   entered : (c : Call) (s : Nmt) → Enters h c s → (step h c).core.nmt ≡ s
+  entered tick s x' = elim x' [ ]
+  entered (sample _) s x3 = elim x3 [ ]
   entered (receive f) s (by_command g x) = enters h f g x
   entered (receive f) s (by_reset x) = ap (λ y. y.nmt) (core_step h (receive f) ∙ ap (acted h.core) (commands h f x))
   entered slot s (by_boot_up i) = ap (λ x. x.nmt) (core_step h slot ∙ ap (acted h.core) (boots h i))

@@ -20,7 +20,7 @@ use Rattle.position.specs.Profile.{highest_raw}
 use Rattle.promises.specs.States.{operational, stopped, pre_operational, is_initialising, is_live}
 use Rattle.promises.specs.States.{node, Command, no_command, to_enter, to_reset, command_of}
 use Rattle.promises.specs.WaitingLine.{sdo_reply, number}
-use Rattle.promises.specs.Acts.{Act, boot, idle, send, acted, frame_by}
+use Rattle.promises.specs.Acts.{Act, boot, idle, send, acted, frame_by, enter, lose, nothing, serve, sync, take, time}
 use Rattle.promises.specs.Calls.{Call, receive, tick, sample, slot, is_slot, is_heard, meant, step, is_frame, frame_in, slot_answer}
 use Rattle.promises.specs.Valid.{waits, Valid}
 use Rattle.promises.specs.Meant.{Commands}
@@ -54,6 +54,14 @@ replies_first h v e = by_act (meant h slot) (at_slot h v) e
 
     by_act : (a : Act) → AtSlot h a → (is_frame (frame_by h.core a) && eqb (frame_in (frame_by h.core a)).identifier (0x580 + n)) ≡ true
         → Sends h slot sdo_reply × (waits h sdo_reply ≡ true)
+    by_act nothing x'' e = elim x'' [ ]
+    by_act (enter _) x4 e = elim x4 [ ]
+    by_act (Rattle.promises.specs.Acts.reset _) x5 e = elim x5 [ ]
+    by_act (take _) x6 e = elim x6 [ ]
+    by_act lose x6 e = elim x6 [ ]
+    by_act time x7 e = elim x7 [ ]
+    by_act sync x8 e = elim x8 [ ]
+    by_act (serve _) x10 e = elim x10 [ ]
     by_act boot (booting i) e = absurd (omega (arith, eqb-true (0x700 + n) (0x580 + n) e))
     by_act idle (idling i f) e = true_false (sym e)
     by_act (send k) (sending _ i f w) e =

@@ -31,7 +31,7 @@ use Rattle.parts.specs.declared.Sensor.TheVariants.{Missing, Raw}
 use Rattle.promises.specs.States.{operational, is_in, node, communication, good, pdo, fixed_for, of_node, of_communication}
 use Rattle.promises.specs.Timers.{synchronous}
 use Rattle.promises.specs.WaitingLine.{Kind, emergency, sdo_reply, heartbeat, tpdo, number, present, carried, frame_of}
-use Rattle.promises.specs.Acts.{Act, boot, idle, send, frame_by}
+use Rattle.promises.specs.Acts.{Act, boot, idle, send, frame_by, enter, lose, nothing, reset, serve, sync, take, time}
 use Rattle.promises.specs.Calls.{Call, receive, slot, meant, step, is_frame, frame_in, slot_answer}
 use Rattle.promises.specs.Valid.{waits, Valid}
 use Rattle.promises.specs.Meant.{due_to, Writes}
@@ -132,6 +132,14 @@ module _ (h : Head) (v : Valid h) where
     where
       by_act : (a : Act) → AtSlot h a → let x = frame_by h.core a in is_frame x ≡ true → is_position (frame_in x) ≡ true
           → Carries h (frame_in x)
+      by_act nothing x3 f b = elim x3 [ ]
+      by_act (enter _) x5 f b = elim x5 [ ]
+      by_act (reset _) x6 f b = elim x6 [ ]
+      by_act (take _) x7 f b = elim x7 [ ]
+      by_act lose x7 f b = elim x7 [ ]
+      by_act time x8 f b = elim x8 [ ]
+      by_act sync x9 f b = elim x9 [ ]
+      by_act (serve _) x11 f b = elim x11 [ ]
       by_act boot (booting i) f b = true_false (sym b ∙ (known_boot_up (node h.core) h.core refl v.device).position)
       by_act idle (idling i e) f b = true_false (sym f)
       by_act (send k) (sending _ i e w) f b =

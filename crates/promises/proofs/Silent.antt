@@ -41,7 +41,7 @@ use Rattle.promises.proofs.Lined.{turns}
 use Rattle.promises.proofs.Turns.{sound}
 use Rattle.promises.proofs.Readings.{tells, stays_missing}
 use Rattle.promises.proofs.Emergency.{is_first, says}
-use Rattle.promises.proofs.Hidden.{none_joins, hidden, none_among}
+use Rattle.promises.proofs.Unshown.{none_joins, hidden, none_among}
 
 -- those that stand behind a kind
 abbrev behind : ℕ → List ℕ → List ℕ

@@ -260,6 +260,8 @@ module _ (p : PowerUp) (w : PdoNumber) where
   -- a PDO that begins to wait and is synchronous does so by a SYNC that fixes its position
   begun : (cs : List Call) (x : Call) → let h = after (powered p) cs in Begins h (counts_after p cs) x (tpdo w) → OnSyncs (pdo_of (step h x) w)
       → (r : ℕ) × Fixes p cs x w r
+  begun cs (sample _) x4 s = elim x4 [ ]
+  begun cs slot x4 s = elim x4 [ ]
   begun cs (receive f) (moments.enters m o r t) s =
       let h = after (powered p) cs in
       let same = core_step h (receive f) ∙ ap (acted h.core) (entered h f (m, o)) in

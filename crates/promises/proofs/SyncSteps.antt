@@ -26,7 +26,7 @@ use Rattle.promises.specs.States.{operational, stopped, code, is_in, communicati
 use Rattle.promises.specs.Timers.{synchronous, OnSyncs}
 use Rattle.promises.specs.WaitingLine.{tpdo, frame_of}
 use Rattle.promises.specs.Acts.{sync, serve, acted}
-use Rattle.promises.specs.Calls.{Call, receive, sample, slot, step}
+use Rattle.promises.specs.Calls.{Call, receive, sample, slot, step, tick}
 use Rattle.promises.specs.Valid.{waits}
 use Rattle.promises.specs.Meant.{Synchronises}
 use Rattle.promises.specs.Withdrawals.{identifier_key, Withdrawal, resets, stops, leaves, loses, switches_off_law}
@@ -67,6 +67,9 @@ stays_on p cs c w t y q o i =
     h = after (powered p) cs
 
     taken : (c : Call) → Withdrawal h c (tpdo w) → is_in operational (step h c).core ≡ true → on (pdo_of (step h c) w).identifier ≡ true → ⊥
+    taken tick x3 o i = elim x3 [ ]
+    taken (sample (Raw _)) x7 o i = elim x7 [ ]
+    taken slot x5 o i = elim x5 [ ]
     taken (receive f) (resets {r = r} m) o i = true_false (sym o ∙ not_operational (step h (receive f)).core (reset-law h f r m).initialising)
     taken (receive f) (stops m n) o i = true_false (sym o ∙ ap (λ (s : Nmt). eqb s.code (code operational)) (enters h f stopped m))
     taken (receive f) (leaves {g = g} m y n) o i = true_false (sym o ∙ elsewhere h.core (step h (receive f)).core g y n (enters h f g m))

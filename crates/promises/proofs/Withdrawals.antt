@@ -154,6 +154,14 @@ module _ (h : Head) (v : Valid h) where
   -- a slot ends only the emergency's, by sending it
   by_slot : (a : Act) → AtSlot h a → (k : Kind) → may_stay h.core k ≡ true → may_stay (acted h.core a) k ≡ false
       → first (waiting h.line) ≡ number k
+  by_slot nothing x3 k y n = elim x3 [ ]
+  by_slot (enter _) x5 k y n = elim x5 [ ]
+  by_slot (reset _) x6 k y n = elim x6 [ ]
+  by_slot (take _) x7 k y n = elim x7 [ ]
+  by_slot lose x7 k y n = elim x7 [ ]
+  by_slot time x8 k y n = elim x8 [ ]
+  by_slot sync x9 k y n = elim x9 [ ]
+  by_slot (serve _) x11 k y n = elim x11 [ ]
   by_slot boot (booting i) k y n = goes_on y (no_stay h.core k i)
   by_slot idle (idling i e) k y n = goes_on y n
   by_slot (send emergency) (sending j i e w) emergency y n = e

@@ -12,7 +12,7 @@ use Rattle.parts.specs.declared.Head.{Head}
 use Rattle.parts.specs.declared.Sensor.TheVariants.{Missing}
 use Rattle.promises.specs.States.{node, good, PdoNumber, one, two}
 use Rattle.promises.specs.WaitingLine.{Kind, emergency, sdo_reply, heartbeat, tpdo, number, boot_up_frame, frame_of}
-use Rattle.promises.specs.Acts.{Act, boot, idle, send, acted, frame_by}
+use Rattle.promises.specs.Acts.{Act, boot, idle, send, acted, frame_by, enter, lose, nothing, reset, serve, sync, take, time}
 use Rattle.promises.specs.Calls.{Call, receive, tick, sample, slot, is_slot, meant, step}
 use Rattle.promises.specs.Valid.{waits, Valid}
 use Rattle.promises.specs.Histories.{after, frames, sent, PowerUp, powered}
@@ -90,6 +90,14 @@ module _ (h : Head) (v : Valid h) where
             pdo_sent w (frame_of h.core (tpdo w)) s y (sent_gone h v slot (tpdo w) (sends_it h v slot (tpdo w) refl e))
 
     slot_sent : (a : Act) → AtSlot h a → Fewer slot gone (framed (frame_by h.core a))
+    slot_sent nothing x' = elim x' [ ]
+    slot_sent (enter _) x3 = elim x3 [ ]
+    slot_sent (reset _) x4 = elim x4 [ ]
+    slot_sent (take _) x5 = elim x5 [ ]
+    slot_sent lose x5 = elim x5 [ ]
+    slot_sent time x6 = elim x6 [ ]
+    slot_sent sync x7 = elim x7 [ ]
+    slot_sent (serve _) x9 = elim x9 [ ]
     slot_sent boot (booting i) =
         none_sent slot gone (boot_up_frame h.core ∷ [])
         (rw (known_boot_up (node h.core) h.core refl v.device).position)

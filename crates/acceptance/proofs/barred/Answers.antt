@@ -1,0 +1,6 @@
+-- `acceptance::barred` meets its contract, by those of `scaling` and `pdo_barred`.
+use borrow.Author.Rules.{rules}
+use Rattle.acceptance.proofs.barred.Goals as goal
+
+pub returns : goal.returns
+returns c = rw (c.pdo_barred-2.ensures, c.pdo_barred.ensures, c.scaling.ensures)

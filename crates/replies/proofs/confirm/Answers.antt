@@ -1,0 +1,6 @@
+-- `replies::confirm` meets its contract, by that of `framed`.
+use borrow.Author.Rules.{rules}
+use Rattle.replies.proofs.confirm.Goals as goal
+
+pub returns : goal.returns
+returns c = rw c.framed-bytes.ensures
