@@ -1,0 +1,6 @@
+-- `is_live_law` meets its contract.
+use borrow.Author.Rules.{rules}
+use Rattle.states.proofs.is_live.Goals as goal
+
+pub returns : goal.returns
+returns c = rw (c.same-2.ensures, c.same.ensures)

@@ -1,0 +1,6 @@
+-- `values::is_blank` meets its contract: each case by its arm.
+use borrow.Author.Rules.{rules}
+use Rattle.values.proofs.is_blank.Goals as goal
+
+pub returns-in-Beyond : goal.returns-in-Beyond
+returns-in-Beyond c = rw c.in-Beyond.is

@@ -1,0 +1,13 @@
+-- `writes::communication_after` meets its contract, field by field.
+use borrow.Author.Rules.{rules}
+use Rattle.writes.proofs.communication_after.Goals as goal
+
+pub returns : goal.returns
+returns c =
+    rw (
+      c.pdo_after-2.ensures,
+      c.pdo_after.ensures,
+      c.choose-3.ensures,
+      c.choose-2.ensures,
+      c.choose.ensures,
+    )

@@ -1,0 +1,6 @@
+-- `writes::range_for` meets its contract, by that of `scaling`.
+use borrow.Author.Rules.{rules}
+use Rattle.writes.proofs.range_for.Goals as goal
+
+pub returns : goal.returns
+returns c = rw (c.choose.ensures, c.scaling.ensures)
