@@ -14,11 +14,8 @@ use Rattle.runs.proofs.SyncFrames.{fixed_at_sync}
 use Rattle.runs.proofs.Rounding.{rounding}
 use Rattle.runs.proofs.statements.Goals as goal
 
-)
-
 pub returns : goal.returns
-returns c =
-    (
+returns c = (
   full_line,
   busy_line_law,
   joining,
@@ -34,3 +31,4 @@ returns c =
   naming,
   fixed_at_sync,
   rounding,
+)

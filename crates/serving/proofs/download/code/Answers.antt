@@ -6,13 +6,13 @@ use Rattle.serving.proofs.download.code.Goals as goal
 
 pub returns-then-not-rw : goal.returns-then-not-rw
 unfolding write_code
-returns-then-not-rw c = rw (not-true c.args.row.2 c.if-not-rw.true)
+returns-then-not-rw c = rw (c.if-not-rw.true)
 
 pub returns-then-code-ne0 : goal.returns-then-code-ne0
 unfolding write_code
 returns-then-code-ne0 c =
     rw (
-      not-false c.args.row.2 c.if-not-rw.false,
+      c.if-not-rw.false,
       ← c.length_code-code.ensures,
       ne_eqb _ _ c.if-code-ne0.true,
     )
@@ -24,5 +24,5 @@ returns c =
       ← c.abort_code.ensures,
       ← c.length_code-code.ensures,
       c.if-code-ne0.false,
-      not-false c.args.row.2 c.if-not-rw.false,
+      c.if-not-rw.false,
     )

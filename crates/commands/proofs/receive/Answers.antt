@@ -1,0 +1,6 @@
+use mathlib.Core.Path.{◌∙◌}
+use borrow.Author.Rules.{rules}
+use Rattle.commands.proofs.receive.Goals as goal
+
+pub returns : goal.returns
+returns c = c.told.ensures ∙ rw c.receive.ensures.0

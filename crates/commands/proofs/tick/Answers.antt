@@ -1,0 +1,14 @@
+use Prim.Native.Nat.{◌-◌}
+use Rattle.commands.proofs.Ticks.{Ticking, tick_start, tick_more, tick_all}
+use native.Mathlib.Omega.{arith}
+use borrow.Author.Rules.{rules}
+use Rattle.commands.proofs.tick.Goals as goal
+
+pub loop-i-init : goal.loop-i-init
+loop-i-init c = search tick_start
+
+pub loop-i-preserved : goal.loop-i-preserved
+loop-i-preserved c = search tick_more
+
+pub returns : goal.returns
+returns c = search tick_all

@@ -1,0 +1,6 @@
+-- `obeying::emptied` meets its contract, by that of its step.
+use borrow.Author.Rules.{rules}
+use Rattle.head.proofs.obeying.emptied.Goals as goal
+
+pub returns : goal.returns
+returns c = rw c.empty-left.ensures

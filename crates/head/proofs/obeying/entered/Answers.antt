@@ -1,0 +1,6 @@
+-- `obeying::entered` meets its contract, by that of its step.
+use borrow.Author.Rules.{rules}
+use Rattle.head.proofs.obeying.entered.Goals as goal
+
+pub returns : goal.returns
+returns c = rw c.enter-left.ensures

@@ -1,0 +1,6 @@
+-- `obeying::restarted` meets its contract, by that of its step.
+use borrow.Author.Rules.{rules}
+use Rattle.head.proofs.obeying.restarted.Goals as goal
+
+pub returns : goal.returns
+returns c = rw c.restart-left.ensures

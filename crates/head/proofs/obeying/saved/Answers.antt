@@ -1,0 +1,6 @@
+-- `obeying::saved` meets its contract, by that of its step.
+use borrow.Author.Rules.{rules}
+use Rattle.head.proofs.obeying.saved.Goals as goal
+
+pub returns : goal.returns
+returns c = rw c.save-left.ensures

@@ -1,0 +1,6 @@
+-- `obeying::scaled` meets its contract, by that of its step.
+use borrow.Author.Rules.{rules}
+use Rattle.head.proofs.obeying.scaled.Goals as goal
+
+pub returns : goal.returns
+returns c = rw c.scale-left.ensures

@@ -1,0 +1,6 @@
+-- `refused` meets its contract: the head of node 1, each name "?".
+use borrow.Author.Rules.{rules}
+use Rattle.head.proofs.refused.Goals as goal
+
+pub returns : goal.returns
+returns c = rw (c.started.ensures, c.unknown-3.ensures, c.unknown-2.ensures, c.unknown.ensures)

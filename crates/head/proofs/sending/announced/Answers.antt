@@ -1,0 +1,6 @@
+-- `sending::announced` meets its contract, by that of its step.
+use borrow.Author.Rules.{rules}
+use Rattle.head.proofs.sending.announced.Goals as goal
+
+pub returns : goal.returns
+returns c = rw c.announce-left.ensures

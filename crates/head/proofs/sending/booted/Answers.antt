@@ -1,0 +1,6 @@
+-- `sending::booted` meets its contract, by that of its step.
+use borrow.Author.Rules.{rules}
+use Rattle.head.proofs.sending.booted.Goals as goal
+
+pub returns : goal.returns
+returns c = rw c.boot-left.ensures

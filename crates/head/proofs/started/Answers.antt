@@ -1,0 +1,12 @@
+-- `started` meets its contract, by those of its parts.
+use borrow.Author.Rules.{rules}
+use Rattle.head.proofs.started.Goals as goal
+
+pub returns : goal.returns
+returns c =
+    rw (
+      c.factory-2.ensures,
+      c.factory.ensures,
+      c.at_rest.ensures,
+      c.none-line.ensures,
+    )

@@ -1,0 +1,6 @@
+-- `at_rest` meets its contract.
+use borrow.Author.Rules.{rules}
+use Rattle.nmt.proofs.entry.at_rest.Goals as goal
+
+pub returns : goal.returns
+returns c = rw (c.uncounted-2.ensures, c.uncounted.ensures)

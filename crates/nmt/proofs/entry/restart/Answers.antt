@@ -1,0 +1,6 @@
+-- `restart` meets its contract, part by part.
+use borrow.Author.Rules.{rules}
+use Rattle.nmt.proofs.entry.restart.Goals as goal
+
+pub returns : goal.returns
+returns c = rw (c.none.ensures, c.at_rest.ensures, c.restored.ensures)

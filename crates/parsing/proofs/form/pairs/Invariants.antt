@@ -1,0 +1,13 @@
+use Prim.Native.Nat.{◌-◌}
+use Rattle.parsing.proofs.Pairs.{Pairs, pairs_start, pairs_more, pairs_good}
+use Rattle.parsing.proofs.Pairs.{pairs_none, pairs_not, pairs_short, pair_below, pairs_many}
+use mathlib.Core.Path.{◌∙◌}
+use native.Mathlib.Omega.{arith}
+use borrow.Author.Rules.{rules}
+use Rattle.parsing.proofs.form.pairs.Given as goal
+
+abbrev pub invariant-loop-done : goal.invariant-loop-done
+invariant-loop-done l = Pairs l.line l.before l.count l.bytes l.at l.done
+
+abbrev pub decreases-loop-done : goal.decreases-loop-done
+decreases-loop-done l = l.count - l.done

@@ -1,0 +1,6 @@
+-- `empty` meets its contract.
+use borrow.Author.Rules.{rules}
+use Rattle.server.proofs.effect.empty.Goals as goal
+
+pub returns : goal.returns
+returns c = rw c.join.ensures

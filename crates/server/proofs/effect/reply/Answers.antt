@@ -1,0 +1,6 @@
+-- `reply` meets its contract.
+use borrow.Author.Rules.{rules}
+use Rattle.server.proofs.effect.reply.Goals as goal
+
+pub returns : goal.returns
+returns c = rw c.join.ensures

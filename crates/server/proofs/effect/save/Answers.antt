@@ -1,0 +1,6 @@
+-- `save` meets its contract.
+use borrow.Author.Rules.{rules}
+use Rattle.server.proofs.effect.save.Goals as goal
+
+pub returns : goal.returns
+returns c = rw (c.join.ensures, c.kept.ensures)

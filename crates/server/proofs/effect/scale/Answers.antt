@@ -1,0 +1,6 @@
+-- `scale` meets its contract.
+use borrow.Author.Rules.{rules}
+use Rattle.server.proofs.effect.scale.Goals as goal
+
+pub returns : goal.returns
+returns c = rw (c.join.ensures, c.profile_after.ensures)

@@ -1,0 +1,6 @@
+-- `timers_written` meets its contract, field by field.
+use borrow.Author.Rules.{rules}
+use Rattle.server.proofs.effect.timers_written.Goals as goal
+
+pub returns : goal.returns
+returns c = rw (c.written-2.ensures, c.written.ensures, c.restarted.ensures)

@@ -1,0 +1,6 @@
+-- `serves` meets its contract, by its tests.
+use borrow.Author.Rules.{rules}
+use Rattle.server.proofs.serves.Goals as goal
+
+pub returns : goal.returns
+returns c = rw c.is_live.ensures

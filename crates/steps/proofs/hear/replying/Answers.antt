@@ -1,0 +1,6 @@
+-- `replying` meets its contract.
+use borrow.Author.Rules.{rules}
+use Rattle.steps.proofs.hear.replying.Goals as goal
+
+pub returns : goal.returns
+returns c = rw c.passing-heard.ensures

@@ -1,0 +1,9 @@
+-- `sync_way` meets its contract: in Operational, or not.
+use borrow.Author.Rules.{rules}
+use Rattle.steps.proofs.hear.sync_way.Goals as goal
+
+pub returns-then-length-is_operational : goal.returns-then-length-is_operational
+returns-then-length-is_operational c = rw (← c.is_operational.ensures, c.if-length-is_operational.true)
+
+pub returns : goal.returns
+returns c = rw (← c.is_operational.ensures, c.if-length-is_operational.false)

@@ -1,0 +1,6 @@
+-- `slot::announce` meets its contract, by those of its parts.
+use borrow.Author.Rules.{rules}
+use Rattle.steps.proofs.slot.announce.Goals as goal
+
+pub returns : goal.returns
+returns c = rw (c.taken.ensures, c.inhibit_ticks.ensures)

@@ -1,0 +1,6 @@
+-- `slot::boot` meets its contract, by those of its parts.
+use borrow.Author.Rules.{rules}
+use Rattle.steps.proofs.slot.boot.Goals as goal
+
+pub returns : goal.returns
+returns c = rw (c.join_if.ensures, c.is_on.ensures, c.none.ensures)

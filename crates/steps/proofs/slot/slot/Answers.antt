@@ -1,0 +1,6 @@
+-- `slot::slot` meets its contract, by those of its parts.
+use borrow.Author.Rules.{rules}
+use Rattle.steps.proofs.slot.slot.Goals as goal
+
+pub returns : goal.returns
+returns c = rw (c.frame.ensures, c.way-way.ensures, c.first-kind.ensures)

@@ -1,0 +1,6 @@
+-- `slot::take` meets its contract, by that of `taken`.
+use borrow.Author.Rules.{rules}
+use Rattle.steps.proofs.slot.take.Goals as goal
+
+pub returns : goal.returns
+returns c = rw c.taken-left.ensures

@@ -1,0 +1,6 @@
+-- `frame` meets its contract.
+use borrow.Author.Rules.{rules}
+use Rattle.tpdo.proofs.frame.Goals as goal
+
+pub returns : goal.returns
+returns c = rw (c.long_bytes-low.ensures, ← c.carried.ensures)

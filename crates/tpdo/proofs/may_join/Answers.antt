@@ -1,0 +1,6 @@
+-- `tpdo::may_join` meets its contract, by its tests.
+use borrow.Author.Rules.{rules}
+use Rattle.tpdo.proofs.may_join.Goals as goal
+
+pub returns : goal.returns
+returns c = rw (c.is_on.ensures, c.is_operational.ensures)
