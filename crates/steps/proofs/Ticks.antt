@@ -17,7 +17,7 @@ use Rattle.promises.specs.States.{operational, is_in, is_initialising, communica
 use Rattle.promises.specs.WaitingLine.{Kind, emergency, sdo_reply, heartbeat, tpdo, kinds, number, those_of, those, may_join}
 use Rattle.promises.specs.Timers.{if_running, timers_ticked}
 use Rattle.promises.specs.Acts.{time, acted, time_moments, goes, comes, settled_to, act}
-use Rattle.promises.specs.Calls.{tick, timed, meant, step}
+use Rattle.promises.specs.Calls.{tick, timed, meant}
 use Rattle.promises.specs.Valid.{Valid}
 use Rattle.promises.specs.Promised.{Ticks}
 use Rattle.promises.proofs.Nothing.{act_nothing, act_step}

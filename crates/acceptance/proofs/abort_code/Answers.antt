@@ -2,7 +2,6 @@
 use mathlib.Core.Bool.{true, false}
 use mathlib.Core.Path.{sym, ◌∙◌}
 use Rattle.dictionary.proofs.Accepted.{value_first, state_next}
-use borrow.Author.Rules.{rules}
 use Rattle.acceptance.proofs.abort_code.Goals as goal
 
 pub returns-then-code-ne0 : goal.returns-then-code-ne0

@@ -1,5 +1,4 @@
 -- `acceptance::barred` meets its contract, by those of `scaling` and `pdo_barred`.
-use borrow.Author.Rules.{rules}
 use Rattle.acceptance.proofs.barred.Goals as goal
 
 pub returns : goal.returns

@@ -1,5 +1,4 @@
 -- `acceptance::is_pdo_identifier` meets its contract, by that of `is_on`.
-use borrow.Author.Rules.{rules}
 use Rattle.acceptance.proofs.is_pdo_identifier.Goals as goal
 
 pub returns : goal.returns

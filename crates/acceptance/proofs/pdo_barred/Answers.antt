@@ -1,5 +1,4 @@
 -- `acceptance::pdo_barred` meets its contract, by those of `is_on` and `key_of`.
-use borrow.Author.Rules.{rules}
 use Rattle.acceptance.proofs.pdo_barred.Goals as goal
 
 pub returns : goal.returns

@@ -1,5 +1,4 @@
 -- `acceptance::value_abort_code` meets its contract: each arm by the values that led there.
-use borrow.Author.Rules.{rules}
 use Rattle.acceptance.proofs.value_abort_code.Goals as goal
 
 pub returns-in-Only : goal.returns-in-Only

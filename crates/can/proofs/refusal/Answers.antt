@@ -1,6 +1,5 @@
 -- `refusal` meets its contract: each return by the tests that led there. Assumes nothing.
 use mathlib.Core.Path.{sym, ◌∙◌}
-use borrow.Author.Rules.{rules}
 use Rattle.can.proofs.refusal.Goals as goal
 
 pub returns-then-bad_identifier : goal.returns-then-bad_identifier

@@ -1,5 +1,4 @@
 use Rattle.commands.proofs.Obeying.{obeys, obeys_ticks, obeys_missing, obeys_slot}
-use borrow.Author.Rules.{rules}
 use Rattle.commands.proofs.obey.Goals as goal
 
 pub returns-in-Malformed : goal.returns-in-Malformed

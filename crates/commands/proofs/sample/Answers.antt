@@ -1,6 +1,5 @@
 use mathlib.Core.Path.{◌∙◌}
 use Rattle.commands.proofs.Samples.{sampled_above}
-use borrow.Author.Rules.{rules}
 use Rattle.commands.proofs.sample.Goals as goal
 
 pub returns-then-number-gt-HIGHEST : goal.returns-then-number-gt-HIGHEST

@@ -1,4 +1,3 @@
-use borrow.Author.Rules.{rules}
 use Rattle.commands.proofs.shown.Goals as goal
 
 pub returns-then-sent : goal.returns-then-sent

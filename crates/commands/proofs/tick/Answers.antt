@@ -1,7 +1,5 @@
 use Prim.Native.Nat.{◌-◌}
-use Rattle.commands.proofs.Ticks.{Ticking, tick_start, tick_more, tick_all}
-use native.Mathlib.Omega.{arith}
-use borrow.Author.Rules.{rules}
+use Rattle.commands.proofs.Ticks.{tick_start, tick_more, tick_all}
 use Rattle.commands.proofs.tick.Goals as goal
 
 pub loop-i-init : goal.loop-i-init

@@ -1,7 +1,5 @@
 use Prim.Native.Nat.{◌-◌}
-use Rattle.commands.proofs.Ticks.{Ticking, tick_start, tick_more, tick_all}
-use native.Mathlib.Omega.{arith}
-use borrow.Author.Rules.{rules}
+use Rattle.commands.proofs.Ticks.{Ticking}
 use Rattle.commands.proofs.tick.Given as goal
 
 abbrev pub invariant-loop-i : goal.invariant-loop-i

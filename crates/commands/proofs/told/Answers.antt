@@ -1,6 +1,5 @@
 use Rattle.transcript.specs.Commands.{told}
 use borrow.Author.Tests.{eq-eqb, ne_eqb}
-use borrow.Author.Rules.{rules}
 use Rattle.commands.proofs.told.Goals as goal
 
 pub returns-then-answer-eq-NO_REFUSAL : goal.returns-then-answer-eq-NO_REFUSAL

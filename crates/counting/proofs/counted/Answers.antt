@@ -1,5 +1,4 @@
 -- `counted` meets its contract: each return by where the count stands.
-use borrow.Author.Rules.{rules}
 use Rattle.counting.proofs.Periods.{past, below, reached}
 use Rattle.counting.proofs.counted.Goals as goal
 

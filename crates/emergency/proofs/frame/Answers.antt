@@ -1,5 +1,4 @@
 -- `frame` meets its contract.
-use borrow.Author.Rules.{rules}
 use Rattle.emergency.proofs.frame.Goals as goal
 
 pub returns : goal.returns

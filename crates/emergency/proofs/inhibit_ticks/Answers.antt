@@ -1,6 +1,5 @@
 -- `emergency::inhibit_ticks` meets its contract: none for 0, else its ticks.
 use borrow.Author.Tests.{eq-eqb, ne_eqb}
-use borrow.Author.Rules.{rules}
 use Rattle.emergency.proofs.inhibit_ticks.Goals as goal
 
 pub returns-then-inhibit-eq0 : goal.returns-then-inhibit-eq0

@@ -1,6 +1,5 @@
 use Prim.Native.Nat.{◌-◌}
-use lib.ListN.{length}
-use Rattle.feeding.proofs.Feeding.{Feeding, feed_start, feed_room, feed_more, feed_all, feed_out}
+use Rattle.feeding.proofs.Feeding.{feed_start, feed_room, feed_more, feed_all, feed_out}
 use native.Mathlib.Omega.{arith}
 use borrow.Author.Rules.{rules}
 use Rattle.feeding.proofs.chunk.Goals as goal

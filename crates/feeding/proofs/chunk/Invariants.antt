@@ -1,8 +1,6 @@
 use Prim.Native.Nat.{◌-◌}
 use lib.ListN.{length}
-use Rattle.feeding.proofs.Feeding.{Feeding, feed_start, feed_room, feed_more, feed_all, feed_out}
-use native.Mathlib.Omega.{arith}
-use borrow.Author.Rules.{rules}
+use Rattle.feeding.proofs.Feeding.{Feeding}
 use Rattle.feeding.proofs.chunk.Given as goal
 
 abbrev pub invariant-loop-i : goal.invariant-loop-i

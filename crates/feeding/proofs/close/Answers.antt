@@ -1,5 +1,4 @@
 use Rattle.feeding.proofs.Ways.{close_none, close_line}
-use borrow.Author.Rules.{rules}
 use Rattle.feeding.proofs.close.Goals as goal
 
 pub returns-then-line-eq0 : goal.returns-then-line-eq0

@@ -1,7 +1,5 @@
 use Prim.Native.Nat.{◌-◌}
-use Rattle.feeding.proofs.Copying.{Copied, copy_start, copy_more, copy_all}
-use native.Mathlib.Omega.{arith}
-use borrow.Author.Rules.{rules}
+use Rattle.feeding.proofs.Copying.{Copied}
 use Rattle.feeding.proofs.put.Given as goal
 
 abbrev pub invariant-loop-i : goal.invariant-loop-i

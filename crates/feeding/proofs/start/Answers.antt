@@ -1,4 +1,3 @@
-use borrow.Author.Rules.{rules}
 use Rattle.feeding.proofs.start.Goals as goal
 
 pub returns : goal.returns

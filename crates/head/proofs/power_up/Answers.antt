@@ -1,6 +1,5 @@
 -- `power_up` meets its promise, by its two parts.
 use mathlib.Core.Path.{ap₂}
-use borrow.Author.Rules.{rules}
 use Rattle.parts.specs.declared.Answer.{Answer}
 use Rattle.head.proofs.power_up.Goals as goal
 

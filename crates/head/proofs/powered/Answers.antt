@@ -1,7 +1,6 @@
 -- `powered` meets its contract: refused, or started.
 use mathlib.Core.Path.{sym, ◌∙◌}
 use Rattle.head.proofs.PowerUps.{powered_refused, powered_taken}
-use borrow.Author.Rules.{rules}
 use Rattle.head.proofs.powered.Goals as goal
 
 pub returns-then-refusal-ne-NO_REFUSAL : goal.returns-then-refusal-ne-NO_REFUSAL

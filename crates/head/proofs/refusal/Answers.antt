@@ -1,11 +1,10 @@
 -- `refusal` meets its contract: 4, 5, or none.
-use borrow.Author.Tests.{not-true, not-false, eqb-false}
+use borrow.Author.Tests.{eqb-false}
 use Rattle.dictionary.specs.Valid.{FitsIdentity}
 use Rattle.head.proofs.PowerUps.{bad_node, bad_name, taken}
 use mathlib.Core.Path.{◌≡◌, refl}
 use mathlib.Core.Bool.{true, false}
 use native.Mathlib.Omega.{arith}
-use borrow.Author.Rules.{rules}
 use Rattle.entries.specs.Identity.{has_names}
 use Rattle.head.proofs.refusal.Goals as goal
 

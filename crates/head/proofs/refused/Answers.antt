@@ -1,5 +1,4 @@
 -- `refused` meets its contract: the head of node 1, each name "?".
-use borrow.Author.Rules.{rules}
 use Rattle.head.proofs.refused.Goals as goal
 
 pub returns : goal.returns

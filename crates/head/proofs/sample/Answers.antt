@@ -1,5 +1,4 @@
 -- `sample` meets its promise: missing, or a raw position.
-use borrow.Author.Rules.{rules}
 use Rattle.head.proofs.sample.Goals as goal
 
 pub returns-in_default : goal.returns-in_default

@@ -1,6 +1,5 @@
 -- `sample_missing` meets its promise: the parts that it may alter are those of its step, and all else stays.
 use Rattle.samples.proofs.Samples.{samples_missing}
-use borrow.Author.Rules.{rules}
 use Rattle.head.proofs.sample_missing.Goals as goal
 
 pub returns : goal.returns

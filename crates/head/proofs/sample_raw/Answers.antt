@@ -1,6 +1,5 @@
 -- `sample_raw` meets its promise: the parts that it may alter are those of its step, and all else stays.
 use Rattle.samples.proofs.Samples.{samples_raw}
-use borrow.Author.Rules.{rules}
 use Rattle.head.proofs.sample_raw.Goals as goal
 
 pub returns : goal.returns

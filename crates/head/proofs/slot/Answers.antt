@@ -1,6 +1,5 @@
 -- `slot` meets its promise: the answer is its step's, and so are the parts of its way.
 use Rattle.head.proofs.Slots.{slots}
-use borrow.Author.Rules.{rules}
 use Rattle.head.proofs.slot.Goals as goal
 
 pub returns : goal.returns

@@ -1,5 +1,4 @@
 -- `started` meets its contract, by those of its parts.
-use borrow.Author.Rules.{rules}
 use Rattle.head.proofs.started.Goals as goal
 
 pub returns : goal.returns

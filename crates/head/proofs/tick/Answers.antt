@@ -4,7 +4,6 @@ use lib.Dec.{eqb}
 use borrow.Author.Tests.{ne_eqb}
 use Rattle.steps.proofs.Ticks.{ticks_settling, ticks_resting}
 use Rattle.steps.specs.declared.tick.Ticked.{Ticked}
-use borrow.Author.Rules.{rules}
 use Rattle.head.proofs.tick.Goals as goal
 
 pub returns-then-ticked-ne-SETTLES : goal.returns-then-ticked-ne-SETTLES

@@ -1,7 +1,6 @@
 -- `lines::push` meets its contract, by whether there is room. Assumes nothing.
 use Rattle.text.specs.Lines.{pushed}
 use borrow.Author.Tests.{lt-ltb, le-ltb}
-use borrow.Author.Rules.{rules}
 use Rattle.lines.proofs.push.Goals as goal
 
 pub returns-then-at-lt-LONGEST : goal.returns-then-at-lt-LONGEST

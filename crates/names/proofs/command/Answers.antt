@@ -1,7 +1,6 @@
 -- `command` meets its contract, by what is left of the name.
 use borrow.Author.Tests.{le-leb}
 use Rattle.names.proofs.Segments.{full_command}
-use borrow.Author.Rules.{rules}
 use Rattle.names.proofs.command.Goals as goal
 
 pub returns-then-left-le-SEGMENT : goal.returns-then-left-le-SEGMENT

@@ -1,6 +1,5 @@
 -- `next` meets its contract, by what is left of the name.
 use borrow.Author.Tests.{le-leb, lt-leb}
-use borrow.Author.Rules.{rules}
 use native.Mathlib.Numerals.{add-one}
 use Rattle.names.proofs.next.Goals as goal
 

@@ -1,7 +1,6 @@
 -- `segment` meets its contract, by its eight bytes.
 use native.Mathlib.Nat.{mul_comm}
 use Rattle.names.proofs.Segments.{segment_of_law}
-use borrow.Author.Rules.{rules}
 use Rattle.names.proofs.segment.Goals as goal
 
 pub returns : goal.returns

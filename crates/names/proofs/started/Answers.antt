@@ -1,5 +1,4 @@
 -- `started` meets its contract, by that of `number`.
-use borrow.Author.Rules.{rules}
 use Rattle.names.proofs.started.Goals as goal
 
 pub returns : goal.returns

@@ -1,5 +1,4 @@
 -- `enter` meets its contract: the present state, or another.
-use borrow.Author.Rules.{rules}
 use Rattle.nmt.proofs.enter.Goals as goal
 
 pub returns-then-same : goal.returns-then-same

@@ -1,5 +1,4 @@
 -- `obeyed` meets its contract: command by command.
-use borrow.Author.Rules.{rules}
 use borrow.Author.Tests.{eq-eqb, ne_eqb}
 use Rattle.nmt.proofs.Orders.{resets}
 use Rattle.nmt.proofs.obeyed.Goals as goal

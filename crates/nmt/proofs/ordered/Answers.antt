@@ -1,6 +1,4 @@
 -- `ordered` meets its contract: to this node or to all, and of the right length, or not.
-use borrow.Author.Rules.{rules}
-use borrow.Author.Tests.{not-true, not-false}
 use Rattle.nmt.proofs.Orders.{unaddressed, addressed}
 use Rattle.nmt.proofs.ordered.Goals as goal
 

@@ -1,6 +1,5 @@
 -- `numbers::digit` meets its contract, range by range. Assumes nothing.
 use Rattle.numbers.proofs.Digits.{below_0, to_9, below_A, to_F, below_a, to_f, above_f}
-use borrow.Author.Rules.{rules}
 use Rattle.numbers.proofs.digit.Goals as goal
 
 pub returns-then-byte-lt48 : goal.returns-then-byte-lt48

@@ -1,9 +1,7 @@
 -- `numbers::read` meets its contract, by the loop laws of Reading. Assumes nothing.
 use Prim.Native.Nat.{◌-◌}
-use lib.ListN.{length}
-use Rattle.numbers.proofs.Reading.{Reading, read_start, read_fits, read_room, read_space, read_end, read_bad, read_many, read_more}
+use Rattle.numbers.proofs.Reading.{read_start, read_fits, read_room, read_space, read_end, read_bad, read_many, read_more}
 use mathlib.Core.Path.{◌∙◌}
-use native.Mathlib.Omega.{arith}
 use Rattle.numbers.proofs.read.Goals as goal
 
 pub loop-end-init : goal.loop-end-init

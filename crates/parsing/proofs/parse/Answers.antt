@@ -1,7 +1,6 @@
 -- `parse` meets its contract: each return by the law of its way out. Assumes nothing.
 use Rattle.parsing.proofs.Keys.{parse_empty, parse_slot, parse_one, parse_close, parse_F, parse_T, parse_S, parse_other}
 use mathlib.Core.Path.{◌∙◌}
-use borrow.Author.Rules.{rules}
 use Rattle.parsing.proofs.parse.Goals as goal
 
 pub returns-then-line-eq0 : goal.returns-then-line-eq0

@@ -1,5 +1,4 @@
 -- `directed_of` meets its contract: direction 1, then 0; c is below T.
-use borrow.Author.Rules.{rules}
 use Prim.Native.Nat.{◌<◌}
 use native.Mathlib.Omega.{arith}
 use native.Mathlib.Nat.{mod-lt}

@@ -1,5 +1,4 @@
 -- `moved` meets its contract: by the sign of the offset.
-use borrow.Author.Rules.{rules}
 use Prim.Native.Nat.{◌<◌, ◌^◌}
 use native.Mathlib.Omega.{arith}
 use lib.IntN.{nat_abs}

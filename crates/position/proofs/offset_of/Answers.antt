@@ -1,5 +1,4 @@
 -- `offset_of` meets its contract: both numbers are below T, so their difference fits.
-use borrow.Author.Rules.{rules}
 use Prim.Native.Nat.{ℕ, ◌<◌, ◌^◌}
 use native.Mathlib.Omega.{arith}
 use lib.IntN.{pos, ◌-ℤ◌}

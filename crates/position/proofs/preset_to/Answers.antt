@@ -1,5 +1,4 @@
 -- `preset_to` meets its contract: p and d are below T.
-use borrow.Author.Rules.{rules}
 use Prim.Native.Nat.{◌<◌}
 use native.Mathlib.Omega.{arith}
 use mir.Syntax.{w32}

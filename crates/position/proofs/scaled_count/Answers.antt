@@ -1,5 +1,4 @@
 -- `scaled_count` meets its contract: scaling on, then off.
-use borrow.Author.Rules.{rules}
 use mathlib.Core.Path.{sym, ◌∙◌}
 use Rattle.position.proofs.scaled_count.Goals as goal
 

@@ -1,5 +1,4 @@
 -- `printing::digit` meets its contract, by those of its calls. Assumes nothing.
-use borrow.Author.Rules.{rules}
 use Rattle.printing.proofs.digit.Goals as goal
 
 pub returns : goal.returns

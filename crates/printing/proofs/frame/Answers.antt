@@ -1,8 +1,7 @@
 -- `printing::frame` meets its contract, by the loop laws of Writing. Assumes nothing.
 use Prim.Native.Nat.{◌-◌}
-use Rattle.printing.proofs.Printing.{Writing, write_start, write_pair, write_end}
+use Rattle.printing.proofs.Printing.{write_start, write_pair, write_end}
 use mathlib.Core.Path.{◌∙◌}
-use native.Mathlib.Omega.{arith}
 use borrow.Author.Rules.{rules}
 use Rattle.printing.proofs.frame.Goals as goal
 

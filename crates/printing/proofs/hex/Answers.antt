@@ -1,5 +1,4 @@
 -- `printing::hex` meets its contract, by its test. Assumes nothing.
-use borrow.Author.Rules.{rules}
 use borrow.Author.Tests.{lt-ltb, le-ltb}
 use Rattle.printing.proofs.hex.Goals as goal
 

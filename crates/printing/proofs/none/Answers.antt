@@ -1,5 +1,4 @@
 -- `printing::none` meets its contract, byte by byte. Assumes nothing.
-use borrow.Author.Rules.{rules}
 use Rattle.text.proofs.Growing.{push_line}
 use Rattle.printing.proofs.none.Goals as goal
 

@@ -1,5 +1,4 @@
 -- `printing::pair` meets its contract, by those of its calls. Assumes nothing.
-use borrow.Author.Rules.{rules}
 use Rattle.printing.proofs.pair.Goals as goal
 
 pub returns : goal.returns

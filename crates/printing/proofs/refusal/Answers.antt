@@ -1,5 +1,4 @@
 -- `printing::refusal` meets its contract, byte by byte. Assumes nothing.
-use borrow.Author.Rules.{rules}
 use Rattle.text.specs.Printed.{refusal_text}
 use Rattle.text.proofs.Growing.{push_line}
 use Rattle.printing.proofs.refusal.Goals as goal

@@ -1,5 +1,4 @@
 -- `replies::abort` meets its contract, by that of `framed`.
-use borrow.Author.Rules.{rules}
 use Rattle.replies.proofs.abort.Goals as goal
 
 pub returns : goal.returns

@@ -1,5 +1,4 @@
 -- `replies::confirm` meets its contract, by that of `framed`.
-use borrow.Author.Rules.{rules}
 use Rattle.replies.proofs.confirm.Goals as goal
 
 pub returns : goal.returns

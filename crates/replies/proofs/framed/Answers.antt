@@ -1,5 +1,4 @@
 -- `replies::framed` meets its contract, by that of `long_bytes`.
-use borrow.Author.Rules.{rules}
 use Rattle.replies.proofs.framed.Goals as goal
 
 pub returns : goal.returns

@@ -1,5 +1,4 @@
 -- `replies::shown` meets its contract: a blank, or a number.
-use borrow.Author.Rules.{rules}
 use Rattle.replies.proofs.shown.Goals as goal
 
 pub returns-in_default : goal.returns-in_default

@@ -1,6 +1,5 @@
 -- `requests::said_length` meets its contract, by bit 0.
 use borrow.Author.Tests.{ne_eqb}
-use borrow.Author.Rules.{rules}
 use Rattle.requests.proofs.said_length.Goals as goal
 
 pub returns-then-command-eq1 : goal.returns-then-command-eq1

@@ -1,6 +1,5 @@
 -- `requests::taken_apart` meets its contract, by the tests that led to each return.
 use borrow.Author.Tests.{ne_eqb}
-use borrow.Author.Rules.{rules}
 use Rattle.requests.proofs.taken_apart.Goals as goal
 
 pub returns-then-command-eq-READ : goal.returns-then-command-eq-READ

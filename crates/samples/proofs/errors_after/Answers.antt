@@ -1,5 +1,4 @@
 -- `errors_after` meets its contract: one more, or as before.
-use borrow.Author.Rules.{rules}
 use borrow.Author.Tests.{lt-ltb, le-ltb}
 use native.Mathlib.Numerals.{add-one}
 use Rattle.samples.proofs.errors_after.Goals as goal

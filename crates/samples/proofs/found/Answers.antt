@@ -1,5 +1,4 @@
 -- `found` meets its contract: each return by the tests that led there.
-use borrow.Author.Rules.{rules}
 use Rattle.samples.proofs.found.Goals as goal
 
 pub returns-then-announced : goal.returns-then-announced

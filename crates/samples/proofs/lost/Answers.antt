@@ -1,7 +1,6 @@
 -- `lost` meets its contract: kind after kind.
 use mathlib.Core.Path.{sym, ◌∙◌}
 use borrow.Author.Tests.{eq-eqb, ne_eqb}
-use borrow.Author.Rules.{rules}
 use Rattle.samples.proofs.lost.Goals as goal
 
 pub returns-then-first-eq-EMPTY : goal.returns-then-first-eq-EMPTY

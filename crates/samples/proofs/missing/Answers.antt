@@ -1,6 +1,4 @@
 -- `missing` meets its contract: the reading was missing, or goes missing.
-use borrow.Author.Tests.{not-true, not-false}
-use borrow.Author.Rules.{rules}
 use Rattle.samples.proofs.missing.Goals as goal
 
 pub returns-then-not-good : goal.returns-then-not-good

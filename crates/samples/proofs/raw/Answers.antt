@@ -1,6 +1,5 @@
 -- `raw` meets its contract: refused, or taken.
 use mathlib.Core.Path.{sym, ◌∙◌}
-use borrow.Author.Rules.{rules}
 use Rattle.samples.proofs.raw.Goals as goal
 
 pub returns-then-is_refused : goal.returns-then-is_refused

@@ -1,5 +1,4 @@
 -- `serves` meets its contract, by its tests.
-use borrow.Author.Rules.{rules}
 use Rattle.server.proofs.serves.Goals as goal
 
 pub returns : goal.returns

@@ -1,5 +1,4 @@
 -- `entry_reply` meets its contract: a read, or a write.
-use borrow.Author.Rules.{rules}
 use Rattle.serving.proofs.entry_reply.Goals as goal
 
 pub returns-in-Read : goal.returns-in-Read

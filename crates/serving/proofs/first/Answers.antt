@@ -1,7 +1,6 @@
 -- `first` meets its contract: the client's abort, or 01's list.
 use mathlib.Core.Path.{sym, ◌∙◌}
 use Rattle.sdo.proofs.Due.{none_due, reply_due_law}
-use borrow.Author.Rules.{rules}
 use Rattle.serving.proofs.first.Goals as goal
 
 pub returns-then-is_abort : goal.returns-then-is_abort

@@ -1,5 +1,4 @@
 -- `reply_to` meets its contract: a reason to abort, or what was found.
-use borrow.Author.Rules.{rules}
 use Rattle.serving.proofs.reply_to.Goals as goal
 
 pub returns-in_default : goal.returns-in_default

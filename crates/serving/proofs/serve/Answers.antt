@@ -1,7 +1,6 @@
 -- `serve` meets its contract: a segment request while a transfer runs, or a first request.
 use mathlib.Core.Path.{◌∙◌}
 use Rattle.sdo.specs.Upload.{due_in}
-use borrow.Author.Rules.{rules}
 use Rattle.serving.proofs.serve.Goals as goal
 
 pub returns-then-runs-is_segment : goal.returns-then-runs-is_segment

@@ -1,5 +1,4 @@
 -- `joined` meets its contract, flag by flag.
-use borrow.Author.Rules.{rules}
 use Rattle.settling.proofs.joined.Goals as goal
 
 pub returns : goal.returns

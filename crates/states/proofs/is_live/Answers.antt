@@ -1,5 +1,4 @@
 -- `is_live_law` meets its contract.
-use borrow.Author.Rules.{rules}
 use Rattle.states.proofs.is_live.Goals as goal
 
 pub returns : goal.returns

@@ -1,6 +1,5 @@
 -- `carried` meets its contract: fixed, or at the slot.
 use mathlib.Core.Path.{sym, ◌∙◌}
-use borrow.Author.Rules.{rules}
 use Rattle.tpdo.proofs.carried.Goals as goal
 
 pub returns-then-is_synchronous : goal.returns-then-is_synchronous

@@ -1,5 +1,4 @@
 -- `tpdo::may_join` meets its contract, by its tests.
-use borrow.Author.Rules.{rules}
 use Rattle.tpdo.proofs.may_join.Goals as goal
 
 pub returns : goal.returns

@@ -1,5 +1,4 @@
 -- `tpdo::may_stay` meets its contract, by that of `may_join`.
-use borrow.Author.Rules.{rules}
 use Rattle.tpdo.proofs.may_stay.Goals as goal
 
 pub returns : goal.returns

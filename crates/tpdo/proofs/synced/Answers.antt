@@ -1,5 +1,4 @@
 -- `synced` meets its contract: counted, or left.
-use borrow.Author.Rules.{rules}
 use Rattle.tpdo.proofs.synced.Goals as goal
 
 pub returns-then-is_on-is_synchronous : goal.returns-then-is_on-is_synchronous

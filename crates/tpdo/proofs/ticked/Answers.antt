@@ -1,6 +1,4 @@
 -- `ticked` meets its contract: it counts in Operational only.
-use borrow.Author.Tests.{not-true, not-false}
-use borrow.Author.Rules.{rules}
 use Rattle.tpdo.proofs.ticked.Goals as goal
 
 pub returns-then-not-operational : goal.returns-then-not-operational

@@ -1,5 +1,4 @@
 -- `tpdo::written` meets its contract, field by field.
-use borrow.Author.Rules.{rules}
 use Rattle.tpdo.proofs.written.Goals as goal
 
 pub returns : goal.returns

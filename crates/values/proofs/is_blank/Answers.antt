@@ -1,5 +1,4 @@
 -- `values::is_blank` meets its contract: each case by its arm.
-use borrow.Author.Rules.{rules}
 use Rattle.values.proofs.is_blank.Goals as goal
 
 pub returns-in-Beyond : goal.returns-in-Beyond

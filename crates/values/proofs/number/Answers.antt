@@ -1,5 +1,4 @@
 -- `values::number` meets its contract: each source by its arm.
-use borrow.Author.Rules.{rules}
 use Rattle.position.proofs.Offset.{offset_passed}
 use Rattle.values.proofs.number.Goals as goal
 

@@ -1,5 +1,4 @@
 -- `values::read` meets its contract: blank, or the number of its source.
-use borrow.Author.Rules.{rules}
 use mathlib.Core.Path.{sym, ◌∙◌}
 use Rattle.dictionary.specs.Reads.{shown}
 use Rattle.values.proofs.read.Goals as goal

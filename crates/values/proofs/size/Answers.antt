@@ -1,5 +1,4 @@
 -- `values::size` meets its contract, by the number of the name.
-use borrow.Author.Rules.{rules}
 use borrow.Author.Tests.{ne_eqb}
 use Rattle.values.proofs.size.Goals as goal
 

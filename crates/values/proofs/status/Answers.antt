@@ -1,6 +1,5 @@
 -- `values::status` meets its contract, by its test.
 use native.Mathlib.Nat.{add-zero}
-use borrow.Author.Rules.{rules}
 use Rattle.values.proofs.status.Goals as goal
 
 pub returns-then-operational : goal.returns-then-operational

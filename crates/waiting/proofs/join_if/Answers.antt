@@ -1,5 +1,4 @@
 -- `join_if` meets its contract, by that of `join`. Assumes nothing.
-use borrow.Author.Rules.{rules}
 use Rattle.waiting.proofs.join_if.Goals as goal
 
 pub returns-then-due : goal.returns-then-due

@@ -2,7 +2,6 @@
 use Rattle.waiting.specs.Line.{order}
 use Rattle.waiting.specs.Calls.{flagged}
 use Rattle.waiting.proofs.Flagged.{joins_those}
-use borrow.Author.Rules.{rules}
 use Rattle.waiting.proofs.join_those.Goals as goal
 
 pub returns : goal.returns

@@ -1,5 +1,4 @@
 -- `taken` meets its contract: of a proper line, each moves up one place.
-use borrow.Author.Rules.{rules}
 use Rattle.waiting.proofs.Unmoved.{shifts}
 use Rattle.waiting.proofs.taken.Goals as goal
 

@@ -1,10 +1,8 @@
 -- `waits` meets its contract, by the loop laws of Looking. Assumes nothing.
-use Prim.Native.Nat.{◌-◌}
 use native.Mathlib.Omega.{arith}
 use borrow.Author.Rules.{rules}
 use mathlib.Core.Path.{refl}
-use Rattle.waiting.specs.Line.{places}
-use Rattle.waiting.proofs.Loops.{Looking, look_found, look_past, look_end}
+use Rattle.waiting.proofs.Loops.{look_found, look_past, look_end}
 use Rattle.waiting.proofs.waits.Goals as goal
 
 pub loop-i-init : goal.loop-i-init

@@ -1,9 +1,6 @@
 use Prim.Native.Nat.{◌-◌}
-use native.Mathlib.Omega.{arith}
-use borrow.Author.Rules.{rules}
-use mathlib.Core.Path.{refl}
 use Rattle.waiting.specs.Line.{places}
-use Rattle.waiting.proofs.Loops.{Looking, look_found, look_past, look_end}
+use Rattle.waiting.proofs.Loops.{Looking}
 use Rattle.waiting.proofs.waits.Given as goal
 
 abbrev pub invariant-loop-i : goal.invariant-loop-i

@@ -1,5 +1,4 @@
 -- `withdraw_if` meets its contract, by that of `withdraw`. Assumes nothing.
-use borrow.Author.Rules.{rules}
 use Rattle.waiting.proofs.withdraw_if.Goals as goal
 
 pub returns-then-due : goal.returns-then-due

@@ -1,5 +1,4 @@
 -- `writes::communication_after` meets its contract, field by field.
-use borrow.Author.Rules.{rules}
 use Rattle.writes.proofs.communication_after.Goals as goal
 
 pub returns : goal.returns

@@ -1,5 +1,4 @@
 -- `writes::pdo_after` meets its contract, field by field.
-use borrow.Author.Rules.{rules}
 use Rattle.writes.proofs.pdo_after.Goals as goal
 
 pub returns : goal.returns

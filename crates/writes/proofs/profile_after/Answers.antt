@@ -1,6 +1,5 @@
 -- `writes::profile_after` meets its contract: each return by the entry that led there.
 use borrow.Author.Tests.{ne_eqb}
-use borrow.Author.Rules.{rules}
 use Rattle.writes.proofs.profile_after.Goals as goal
 
 pub returns-then-key-eq-OPERATING : goal.returns-then-key-eq-OPERATING

@@ -1,5 +1,4 @@
 -- `writes::range_for` meets its contract, by that of `scaling`.
-use borrow.Author.Rules.{rules}
 use Rattle.writes.proofs.range_for.Goals as goal
 
 pub returns : goal.returns

@@ -1,6 +1,5 @@
 -- `writes::write` meets its contract, field by field.
 use Rattle.dictionary.specs.Writes.{put}
-use borrow.Author.Rules.{rules}
 use Rattle.writes.proofs.write.Goals as goal
 
 pub returns : goal.returns

@@ -1,15 +1,10 @@
 -- `table::altered` meets its contract: a setting names its own entry, every other source the entry itself.
 use Prim.Native.Nat.{ℕ}
 use mathlib.Core.Path.{◌≡◌, refl}
-use mathlib.Core.List.{List, [], ◌∷◌}
-use borrow.Author.Rules.{rules}
-use types.Run.{OneOf, miss}
-use denote.Enum.Declared.{tag_of}
 use Rattle.entries.specs.declared.table.Source.{Source}
 use Rattle.entries.specs.declared.table.Source.TheVariants.{Fixed, Setting, Register, ErrorCount, Name}
 use Rattle.entries.specs.declared.table.Source.TheVariants.{Vendor, Product, Revision, Serial, Position, Status, Offset}
 use Rattle.entries.specs.Table.{alters}
-use Rattle.entries.specs.contracts.table.Source.{the_type}
 use Rattle.entries.proofs.table.altered.Goals as goal
 
 its_own : (s : Source) (k : ℕ) → ((x : ℕ) → s ≡ Setting x → ⊥) → k ≡ alters s k

@@ -1,14 +1,7 @@
-use Prim.Native.Nat.{ℕ, ◌<◌}
-use mathlib.Core.Path.{◌≡◌, refl, sym, ap, ◌∙◌}
-use mathlib.Core.Logic.{◌⊎◌, inl, inr}
-use native.Mathlib.Omega.{arith}
-use borrow.Author.Rules.{rules}
+use mathlib.Core.Path.{◌≡◌}
+use mathlib.Core.Logic.{◌⊎◌}
 use Rattle.entries.specs.declared.table.Row.{Row}
-use Rattle.entries.specs.declared.table.Found.TheVariants.{At, NoSubIndex, NoIndex}
-use Rattle.entries.specs.Table.{key_of, width, row_of_key, lookup}
 use Rattle.entries.specs.Laws.{Stands}
-use Rattle.entries.proofs.Found.{finds}
-use Rattle.entries.proofs.Search.{there, not_there, no_first}
 use Rattle.entries.proofs.table.find.Given as goal
 
 abbrev pub invariant-loop-row : goal.invariant-loop-row

@@ -2,7 +2,7 @@
 use Prim.Native.Nat.{ℕ}
 use mathlib.Core.Path.{refl}
 use mathlib.Core.List.{List, [], ◌∷◌}
-use Rattle.entries.specs.Table.{table, row_of_key}
+use Rattle.entries.specs.Table.{table}
 use Rattle.entries.proofs.Search.{absent_low}
 use Rattle.entries.proofs.table.from_1000.Goals as goal
 

@@ -1,5 +1,4 @@
 -- `obeying::emptied` meets its contract, by that of its step.
-use borrow.Author.Rules.{rules}
 use Rattle.head.proofs.obeying.emptied.Goals as goal
 
 pub returns : goal.returns

@@ -1,5 +1,4 @@
 -- `obeying::entered` meets its contract, by that of its step.
-use borrow.Author.Rules.{rules}
 use Rattle.head.proofs.obeying.entered.Goals as goal
 
 pub returns : goal.returns

@@ -1,6 +1,5 @@
 -- `obeying::obeyed` meets its contract: each return by its way.
 use borrow.Author.Tests.{ne_eqb}
-use borrow.Author.Rules.{rules}
 use Rattle.head.proofs.obeying.obeyed.Goals as goal
 
 pub synced-requires : goal.synced-requires

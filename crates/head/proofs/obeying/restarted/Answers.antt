@@ -1,5 +1,4 @@
 -- `obeying::restarted` meets its contract, by that of its step.
-use borrow.Author.Rules.{rules}
 use Rattle.head.proofs.obeying.restarted.Goals as goal
 
 pub returns : goal.returns

@@ -1,5 +1,4 @@
 -- `sending::announced` meets its contract, by that of its step.
-use borrow.Author.Rules.{rules}
 use Rattle.head.proofs.sending.announced.Goals as goal
 
 pub returns : goal.returns

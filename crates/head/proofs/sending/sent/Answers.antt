@@ -1,6 +1,5 @@
 -- `sending::sent` meets its contract: each return by its way.
 use borrow.Author.Tests.{ne_eqb}
-use borrow.Author.Rules.{rules}
 use Rattle.head.proofs.sending.sent.Goals as goal
 
 pub returns-in-1 : goal.returns-in-1

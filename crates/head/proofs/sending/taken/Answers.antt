@@ -1,5 +1,4 @@
 -- `sending::taken` meets its contract, by that of its step.
-use borrow.Author.Rules.{rules}
 use Rattle.head.proofs.sending.taken.Goals as goal
 
 pub returns : goal.returns

@@ -1,5 +1,4 @@
 -- `at_rest` meets its contract.
-use borrow.Author.Rules.{rules}
 use Rattle.nmt.proofs.entry.at_rest.Goals as goal
 
 pub returns : goal.returns

@@ -1,5 +1,4 @@
 -- `enter` meets its contract, part by part.
-use borrow.Author.Rules.{rules}
 use Rattle.nmt.proofs.entry.enter.Goals as goal
 
 pub returns : goal.returns

@@ -1,5 +1,4 @@
 -- `entry_due` meets its contract, flag by flag.
-use borrow.Author.Rules.{rules}
 use Rattle.nmt.proofs.entry.entry_due.Goals as goal
 
 pub returns : goal.returns

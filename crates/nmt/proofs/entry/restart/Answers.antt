@@ -1,5 +1,4 @@
 -- `restart` meets its contract, part by part.
-use borrow.Author.Rules.{rules}
 use Rattle.nmt.proofs.entry.restart.Goals as goal
 
 pub returns : goal.returns

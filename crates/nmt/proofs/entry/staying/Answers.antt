@@ -1,5 +1,4 @@
 -- `staying` meets its contract: into Stopped, out of Operational, or else.
-use borrow.Author.Rules.{rules}
 use Rattle.nmt.proofs.entry.staying.Goals as goal
 
 pub returns-then-not-is_live : goal.returns-then-not-is_live

@@ -1,7 +1,6 @@
 -- `form::frame` meets its contract: each return by the law of its way out. Assumes nothing.
 use Rattle.parsing.proofs.Forms.{frame_not, frame_short, frame_unsized, frame_good, frame_id, frame_len}
 use mathlib.Core.Path.{◌∙◌}
-use borrow.Author.Rules.{rules}
 use Rattle.parsing.proofs.form.frame.Goals as goal
 
 pub returns-in_default : goal.returns-in_default

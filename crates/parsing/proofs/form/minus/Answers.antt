@@ -1,6 +1,5 @@
 -- `form::minus` meets its contract, by the length of the line. Assumes nothing.
 use Rattle.parsing.proofs.Forms.{minus_none, minus_one}
-use borrow.Author.Rules.{rules}
 use Rattle.parsing.proofs.form.minus.Goals as goal
 
 pub returns-then-line : goal.returns-then-line

@@ -1,9 +1,5 @@
 use Prim.Native.Nat.{◌-◌}
-use Rattle.parsing.proofs.Pairs.{Pairs, pairs_start, pairs_more, pairs_good}
-use Rattle.parsing.proofs.Pairs.{pairs_none, pairs_not, pairs_short, pair_below, pairs_many}
-use mathlib.Core.Path.{◌∙◌}
-use native.Mathlib.Omega.{arith}
-use borrow.Author.Rules.{rules}
+use Rattle.parsing.proofs.Pairs.{Pairs}
 use Rattle.parsing.proofs.form.pairs.Given as goal
 
 abbrev pub invariant-loop-done : goal.invariant-loop-done

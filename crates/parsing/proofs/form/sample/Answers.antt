@@ -1,7 +1,6 @@
 -- `form::sample` meets its contract: each return by the law of its way out. Assumes nothing.
 use Rattle.parsing.proofs.Forms.{sample_missing_law, sample_not, sample_more, sample_good}
 use mathlib.Core.Path.{◌∙◌}
-use borrow.Author.Rules.{rules}
 use Rattle.parsing.proofs.form.sample.Goals as goal
 
 pub returns-then-minus : goal.returns-then-minus

@@ -1,7 +1,6 @@
 -- `form::ticks` meets its contract: each return by the law of its way out. Assumes nothing.
 use Rattle.parsing.proofs.Forms.{ticks_not, ticks_more, ticks_few, ticks_many, ticks_good}
 use mathlib.Core.Path.{◌∙◌}
-use borrow.Author.Rules.{rules}
 use Rattle.parsing.proofs.form.ticks.Goals as goal
 
 pub returns-in_default : goal.returns-in_default

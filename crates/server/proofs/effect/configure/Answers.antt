@@ -1,5 +1,4 @@
 -- `configure` meets its contract, part by part.
-use borrow.Author.Rules.{rules}
 use Rattle.server.proofs.effect.configure.Goals as goal
 
 pub returns : goal.returns

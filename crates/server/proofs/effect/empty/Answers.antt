@@ -1,5 +1,4 @@
 -- `empty` meets its contract.
-use borrow.Author.Rules.{rules}
 use Rattle.server.proofs.effect.empty.Goals as goal
 
 pub returns : goal.returns

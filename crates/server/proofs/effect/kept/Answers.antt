@@ -1,6 +1,5 @@
 -- `kept` meets its contract: "save", or "load".
 use borrow.Author.Tests.{eq-eqb, ne_eqb}
-use borrow.Author.Rules.{rules}
 use Rattle.server.proofs.effect.kept.Goals as goal
 
 pub returns-then-key-eq-SAVE : goal.returns-then-key-eq-SAVE

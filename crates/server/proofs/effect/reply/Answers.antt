@@ -1,5 +1,4 @@
 -- `reply` meets its contract.
-use borrow.Author.Rules.{rules}
 use Rattle.server.proofs.effect.reply.Goals as goal
 
 pub returns : goal.returns

@@ -1,5 +1,4 @@
 -- `rewritten` meets its contract: none waits and the reading was announced, or else.
-use borrow.Author.Rules.{rules}
 use Rattle.server.proofs.effect.rewritten.Goals as goal
 
 pub returns-then-first-good : goal.returns-then-first-good

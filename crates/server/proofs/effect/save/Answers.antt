@@ -1,5 +1,4 @@
 -- `save` meets its contract.
-use borrow.Author.Rules.{rules}
 use Rattle.server.proofs.effect.save.Goals as goal
 
 pub returns : goal.returns

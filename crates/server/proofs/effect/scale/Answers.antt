@@ -1,5 +1,4 @@
 -- `scale` meets its contract.
-use borrow.Author.Rules.{rules}
 use Rattle.server.proofs.effect.scale.Goals as goal
 
 pub returns : goal.returns

@@ -1,5 +1,4 @@
 -- `timers_written` meets its contract, field by field.
-use borrow.Author.Rules.{rules}
 use Rattle.server.proofs.effect.timers_written.Goals as goal
 
 pub returns : goal.returns

@@ -1,7 +1,6 @@
 -- `download::code` meets its contract: access before length, length before value and state.
-use borrow.Author.Tests.{ne_eqb, not-true, not-false}
+use borrow.Author.Tests.{ne_eqb}
 use Rattle.sdo.specs.Steps.{write_code}
-use borrow.Author.Rules.{rules}
 use Rattle.serving.proofs.download.code.Goals as goal
 
 pub returns-then-not-rw : goal.returns-then-not-rw

@@ -1,6 +1,5 @@
 -- `download::to_row` meets its contract, by the code that is due.
 use borrow.Author.Tests.{ne_eqb}
-use borrow.Author.Rules.{rules}
 use Rattle.serving.proofs.download.to_row.Goals as goal
 
 pub returns-then-code-ne0 : goal.returns-then-code-ne0

@@ -1,6 +1,5 @@
 -- `upload::segment` meets its contract, by the toggle.
 use borrow.Author.Tests.{eq-eqb, ne_eqb}
-use borrow.Author.Rules.{rules}
 use Rattle.serving.proofs.upload.segment.Goals as goal
 
 pub returns-then-toggle : goal.returns-then-toggle

@@ -1,6 +1,5 @@
 -- `hear` meets its contract: each return by the tests that led there.
 use borrow.Author.Tests.{eq-eqb, ne_eqb}
-use borrow.Author.Rules.{rules}
 use Rattle.steps.proofs.hear.hear.Goals as goal
 
 pub returns-then-refusal-ne-NO_REFUSAL : goal.returns-then-refusal-ne-NO_REFUSAL

@@ -1,5 +1,4 @@
 -- `kept` meets its contract, by its test.
-use borrow.Author.Rules.{rules}
 use Rattle.steps.proofs.hear.kept.Goals as goal
 
 pub returns-then-order-same : goal.returns-then-order-same

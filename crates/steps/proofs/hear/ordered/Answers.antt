@@ -1,5 +1,4 @@
 -- `ordered` meets its contract.
-use borrow.Author.Rules.{rules}
 use Rattle.steps.proofs.hear.ordered.Goals as goal
 
 pub returns : goal.returns

@@ -1,5 +1,4 @@
 -- `replying` meets its contract.
-use borrow.Author.Rules.{rules}
 use Rattle.steps.proofs.hear.replying.Goals as goal
 
 pub returns : goal.returns

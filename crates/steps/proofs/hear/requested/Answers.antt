@@ -1,5 +1,4 @@
 -- `requested` meets its contract: served, or not.
-use borrow.Author.Rules.{rules}
 use Rattle.steps.proofs.hear.requested.Goals as goal
 
 pub returns-then-serves : goal.returns-then-serves

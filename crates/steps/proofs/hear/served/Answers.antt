@@ -1,5 +1,4 @@
 -- `served` meets its contract: each arm by the effect that led there.
-use borrow.Author.Rules.{rules}
 use Rattle.steps.proofs.hear.served.Goals as goal
 
 pub returns-in-Nothing : goal.returns-in-Nothing

@@ -1,5 +1,4 @@
 -- `sync_way` meets its contract: in Operational, or not.
-use borrow.Author.Rules.{rules}
 use Rattle.steps.proofs.hear.sync_way.Goals as goal
 
 pub returns-then-length-is_operational : goal.returns-then-length-is_operational

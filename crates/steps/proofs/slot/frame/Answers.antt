@@ -1,7 +1,6 @@
 -- `slot::frame` meets its contract: each return by the kind that led there.
 use mathlib.Core.Path.{sym, ◌∙◌}
 use borrow.Author.Tests.{ne_eqb}
-use borrow.Author.Rules.{rules}
 use Rattle.steps.proofs.slot.frame.Goals as goal
 
 pub returns-then-is_initialising : goal.returns-then-is_initialising

@@ -1,5 +1,4 @@
 -- `slot::slot` meets its contract, by those of its parts.
-use borrow.Author.Rules.{rules}
 use Rattle.steps.proofs.slot.slot.Goals as goal
 
 pub returns : goal.returns

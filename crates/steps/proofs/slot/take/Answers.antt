@@ -1,5 +1,4 @@
 -- `slot::take` meets its contract, by that of `taken`.
-use borrow.Author.Rules.{rules}
 use Rattle.steps.proofs.slot.take.Goals as goal
 
 pub returns : goal.returns

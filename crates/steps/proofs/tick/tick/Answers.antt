@@ -1,6 +1,5 @@
 -- `tick::tick` meets its contract: timers stand, or each is counted.
 use mathlib.Core.Path.{sym, ◌∙◌}
-use borrow.Author.Rules.{rules}
 use Rattle.steps.proofs.tick.tick.Goals as goal
 
 pub returns-then-is_initialising : goal.returns-then-is_initialising

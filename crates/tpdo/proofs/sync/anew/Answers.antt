@@ -1,7 +1,4 @@
 -- `anew` meets its contract: where none is fixed anew, both are as before.
-use mathlib.Core.Bool.{◌||◌}
-use borrow.Author.Tests.{not-true}
-use borrow.Author.Rules.{rules}
 use Rattle.cases.proofs.Cases.{neither}
 use Rattle.tpdo.proofs.sync.anew.Goals as goal
 

@@ -1,5 +1,4 @@
 -- `sync::sync` meets its contract, by those of its parts.
-use borrow.Author.Rules.{rules}
 use Rattle.tpdo.proofs.sync.sync.Goals as goal
 
 pub returns : goal.returns
