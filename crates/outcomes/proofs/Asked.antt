@@ -1,5 +1,4 @@
 -- Proves `Asked` of specs/Asked.antt. Assumes nothing.
-use mathlib.Core.Path.{refl}
 use Rattle.promises.proofs.Histories.{valid_reachable}
 use Rattle.outcomes.specs.Asked.{Asked, LentAsked}
 
@@ -129,15 +128,15 @@ asked =
 pub lent_asked : LentAsked
 lent_asked =
     record {
-      lent·haybleater_power_up = λ M 𝓤 𝓛 m f κs a g. refl;
-      lent·haybleater_receive = (λ κs a. valid_reachable a.0.now, λ M 𝓤 𝓛 m f κs a g. refl);
-      lent·haybleater_tick = (λ κs a. valid_reachable a.0.now, λ M 𝓤 𝓛 m f κs a g. refl);
-      lent·haybleater_sample = (λ κs a. valid_reachable a.0.now, λ M 𝓤 𝓛 m f κs a g. refl);
-      lent·haybleater_missing = (λ κs a. valid_reachable a.0.now, λ M 𝓤 𝓛 m f κs a g. refl);
-      lent·haybleater_slot = (λ κs a. valid_reachable a.0.now, λ M 𝓤 𝓛 m f κs a g. refl);
-      lent·haybleater_state = λ M 𝓤 𝓛 m f κs a g. refl;
-      lent·haybleater_good = λ M 𝓤 𝓛 m f κs a g. refl;
-      lent·haybleater_position = (λ κs a. valid_reachable a.0.now, λ M 𝓤 𝓛 m f κs a g. refl);
-      lent·haybleater_goes_if_missing = λ M 𝓤 𝓛 m f κs a g. refl;
-      lent·haybleater_waits = λ M 𝓤 𝓛 m f κs a g. refl;
+      lent·haybleater_power_up = λ κs a. tt;
+      lent·haybleater_receive = λ κs a. valid_reachable a.0.now;
+      lent·haybleater_tick = λ κs a. valid_reachable a.0.now;
+      lent·haybleater_sample = λ κs a. valid_reachable a.0.now;
+      lent·haybleater_missing = λ κs a. valid_reachable a.0.now;
+      lent·haybleater_slot = λ κs a. valid_reachable a.0.now;
+      lent·haybleater_state = λ κs a. tt;
+      lent·haybleater_good = λ κs a. tt;
+      lent·haybleater_position = λ κs a. valid_reachable a.0.now;
+      lent·haybleater_goes_if_missing = λ κs a. tt;
+      lent·haybleater_waits = λ κs a. tt;
     }

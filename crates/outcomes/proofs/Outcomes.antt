@@ -149,15 +149,15 @@ outcomes =
 pub lent_outcomes : LentOutcomes
 lent_outcomes =
     record {
-      lent·haybleater_power_up = (λ κs a x y p q. answered_alike x y refl p.0 q.0, λ M 𝓤 𝓛 m f κs a g r e. refl);
-      lent·haybleater_receive = (λ κs a x y p q. answered_alike x y refl p.0 q.0, λ M 𝓤 𝓛 m f κs a g r e. refl);
-      lent·haybleater_tick = (λ κs a x y p q. left_alike x y refl refl p.0 q.0, λ M 𝓤 𝓛 m f κs a g r e. refl);
-      lent·haybleater_sample = (λ κs a x y p q. answered_alike x y refl p.0 q.0, λ M 𝓤 𝓛 m f κs a g r e. refl);
-      lent·haybleater_missing = (λ κs a x y p q. left_alike x y refl refl (ap (λ (a : Answer). a.head) p.0) (ap (λ (a : Answer). a.head) q.0), λ M 𝓤 𝓛 m f κs a g r e. refl);
-      lent·haybleater_slot = (λ κs a x y p q. sent_alike x y refl p.0 q.0, λ M 𝓤 𝓛 m f κs a g r e. refl);
-      lent·haybleater_state = (λ κs a x y p q. same x y refl p q, λ M 𝓤 𝓛 m f κs a g r e. refl);
-      lent·haybleater_good = (λ κs a x y p q. same x y refl p q, λ M 𝓤 𝓛 m f κs a g r e. refl);
-      lent·haybleater_position = (λ κs a x y p q. same x y refl p q, λ M 𝓤 𝓛 m f κs a g r e. refl);
-      lent·haybleater_goes_if_missing = (λ κs a x y p q. same x y refl p q, λ M 𝓤 𝓛 m f κs a g r e. refl);
-      lent·haybleater_waits = (λ κs a x y p q. same x y refl p q, λ M 𝓤 𝓛 m f κs a g r e. refl);
+      lent·haybleater_power_up = λ κs a x y p q. answered_alike x y refl p.0 q.0;
+      lent·haybleater_receive = λ κs a x y p q. answered_alike x y refl p.0 q.0;
+      lent·haybleater_tick = λ κs a x y p q. left_alike x y refl refl p.0 q.0;
+      lent·haybleater_sample = λ κs a x y p q. answered_alike x y refl p.0 q.0;
+      lent·haybleater_missing = λ κs a x y p q. left_alike x y refl refl (ap (λ (a : Answer). a.head) p.0) (ap (λ (a : Answer). a.head) q.0);
+      lent·haybleater_slot = λ κs a x y p q. sent_alike x y refl p.0 q.0;
+      lent·haybleater_state = λ κs a x y p q. same x y refl p q;
+      lent·haybleater_good = λ κs a x y p q. same x y refl p q;
+      lent·haybleater_position = λ κs a x y p q. same x y refl p q;
+      lent·haybleater_goes_if_missing = λ κs a x y p q. same x y refl p q;
+      lent·haybleater_waits = λ κs a x y p q. same x y refl p q;
     }

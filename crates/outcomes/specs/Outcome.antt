@@ -1,17 +1,18 @@
 -- What it means that a contract allows one outcome, and that it requires no more than it may: 01, chapter "Strength of the promises".
--- No contract is written a second time here. Rattle turns the clauses of each function in src/ into a
--- module with the function's name: `ended` is its signature, `Reads.Asked` is what a caller has to show,
--- and `Reads.Learnt` is what the caller learns about the outcome. They compute to the text of the clauses.
+-- No contract is written a second time here. Rattle turns the clauses of each function in src/ into a module with the function's name:
+-- `ended` is its signature, and `clauses` are its clauses, as assertions about any memory. A field of specs/Outcomes.antt and of
+-- specs/Asked.antt has the proof, `refl`, that the clauses are this plain fact and nothing else: with another proof or another fact the
+-- field has no type. Where no fact is written, the fact is the one that `refl` finds in the clauses.
 use Rattle.std.specs.Prelude.{◌≡◌}
 use contract.Lifetimes.{Lfts}
 use seplogic.Ra.Ura.{Ura}
-use base.Logic.{SProp, emp}
+use base.Logic.{SProp, emp, sep}
 use prog.Memory.{Memory}
 use prog.Routine.{Routine}
 use types.Logic.{Logic}
 use contract.Monad.{Fun, fact}
 use denote.Triple.Entry.{Args, Res}
-use denote.Triple.Clauses.{Ended, Clauses, Lasts, AtExit, at_exit}
+use denote.Triple.Clauses.{Ended, Clauses, ClausesAt, Lasts, AtExit, at_exit}
 
 -- a statement about the arguments, the answer, and the parameters as the call leaves them
 abbrev pub Promise : Ended → Type 1
@@ -41,26 +42,54 @@ AsksNothing T Asked = (κs : Lfts T.signature.lifetimes) (a : Args T.signature �
 abbrev pub AsksOnly : (T : Ended) → Need T → Need T → Type 0
 AsksOnly T This Asked = (κs : Lfts T.signature.lifetimes) (a : Args T.signature κs) → This κs a → Asked κs a
 
--- A function that takes a struct by reference has no `Reads`. Its clauses themselves must equal what is written here.
+-- A function's clauses, and what holds of them at each of its arguments in every model of the logic.
 abbrev pub Contract : Ended → Type 2
 Contract T = (M : Type 1) (𝓤 : Ura M) → (𝓛 : Logic 𝓤) → (Memory → SProp 𝓤) → (Routine → Fun 𝓤) → Clauses 𝓤 T
 
--- it ensures this, which allows one outcome
-abbrev pub OneOutcomeOf : (T : Ended) → Promise T → Contract T → Type 2
-OneOutcomeOf T This contract =
-    OneOutcome T This
-    × ((M : Type 1) (𝓤 : Ura M) (𝓛 : Logic 𝓤) (m : Memory → SProp 𝓤) (f : Routine → Fun 𝓤) (κs : Lfts T.signature.lifetimes) (a : Args T.signature κs)
-    (g : (contract M 𝓤 𝓛 m f κs a).ghost) (r : Res T.signature κs) (e : AtExit T κs) → (contract M 𝓤 𝓛 m f κs a).ensures g r e ≡ fact 𝓤 (This κs a r e))
-
--- it requires `Asked` of a head, which is no more than `This`
-abbrev pub AsksOnlyOf : (T : Ended) → Need T → Need T → Contract T → Type 2
-AsksOnlyOf T This Asked contract =
-    AsksOnly T This Asked
-    × ((M : Type 1) (𝓤 : Ura M) (𝓛 : Logic 𝓤) (m : Memory → SProp 𝓤) (f : Routine → Fun 𝓤) (κs : Lfts T.signature.lifetimes) (a : Args T.signature κs)
-    (g : (contract M 𝓤 𝓛 m f κs a).ghost) → (contract M 𝓤 𝓛 m f κs a).requires g ≡ fact 𝓤 (Asked κs a))
-
--- it requires nothing
-abbrev pub AsksNothingOf : (T : Ended) → Contract T → Type 2
-AsksNothingOf T contract =
+abbrev pub Everywhere : (T : Ended) → Contract T
+    → ((M : Type 1) (𝓤 : Ura M) (κs : Lfts T.signature.lifetimes) → Args T.signature κs → ClausesAt 𝓤 T κs → Type 2) → Type 2
+Everywhere T contract P =
     (M : Type 1) (𝓤 : Ura M) (𝓛 : Logic 𝓤) (m : Memory → SProp 𝓤) (f : Routine → Fun 𝓤) (κs : Lfts T.signature.lifetimes) (a : Args T.signature κs)
-    (g : (contract M 𝓤 𝓛 m f κs a).ghost) → (contract M 𝓤 𝓛 m f κs a).requires g ≡ emp 𝓤
+    → P M 𝓤 κs a (contract M 𝓤 𝓛 m f κs a)
+
+-- they ensure this and nothing else, in one clause or in two
+abbrev pub Ensures : (T : Ended) → Promise T → Contract T → Type 2
+Ensures T This contract =
+    Everywhere T contract (λ M 𝓤 κs a c. (g : c.ghost) (r : Res T.signature κs) (e : AtExit T κs) → c.ensures g r e ≡ fact 𝓤 (This κs a r e))
+
+abbrev pub EnsuresBoth : (T : Ended) → Promise T → Promise T → Contract T → Type 2
+EnsuresBoth T This That contract =
+    Everywhere T contract (λ M 𝓤 κs a c. (g : c.ghost) (r : Res T.signature κs) (e : AtExit T κs)
+    → c.ensures g r e ≡ sep 𝓤 (fact 𝓤 (This κs a r e)) (fact 𝓤 (That κs a r e)))
+
+-- they require nothing, or this and nothing else, in one clause or in two; and a caller can bring it: there is a ghost value
+abbrev pub RequiresNothing : (T : Ended) → Contract T → Type 2
+RequiresNothing T contract = Everywhere T contract (λ M 𝓤 κs a c. c.ghost × ((g : c.ghost) → c.requires g ≡ emp 𝓤))
+
+abbrev pub Requires : (T : Ended) → Need T → Contract T → Type 2
+Requires T This contract = Everywhere T contract (λ M 𝓤 κs a c. c.ghost × ((g : c.ghost) → c.requires g ≡ fact 𝓤 (This κs a)))
+
+abbrev pub RequiresBoth : (T : Ended) → Need T → Need T → Contract T → Type 2
+RequiresBoth T This That contract =
+    Everywhere T contract (λ M 𝓤 κs a c. c.ghost × ((g : c.ghost) → c.requires g ≡ sep 𝓤 (fact 𝓤 (This κs a)) (fact 𝓤 (That κs a))))
+
+-- What these clauses ensure allows one outcome.
+abbrev pub OneOutcomeOf : (T : Ended) {This : Promise T} (contract : Contract T) → Ensures T This contract → Type 0
+OneOutcomeOf T {This} contract says = OneOutcome T This
+
+abbrev pub OneOutcomeOfBoth : (T : Ended) {This That : Promise T} (contract : Contract T) → EnsuresBoth T This That contract → Type 0
+OneOutcomeOfBoth T {This} {That} contract says = OneOutcome T (λ κs a r e. This κs a r e × That κs a r e)
+
+-- What they ensure promises a caller this.
+abbrev pub PromisesOf : (T : Ended) → Promise T → {Learnt : Promise T} (contract : Contract T) → Ensures T Learnt contract → Type 0
+PromisesOf T This {Learnt} contract says = Promises T This Learnt
+
+-- What they require is nothing, or no more than this.
+abbrev pub AsksNothingOf : (T : Ended) (contract : Contract T) → RequiresNothing T contract → Type 0
+AsksNothingOf T contract says = AsksNothing T (λ κs a. Unit {0})
+
+abbrev pub AsksOnlyOf : (T : Ended) → Need T → {Asked : Need T} (contract : Contract T) → Requires T Asked contract → Type 0
+AsksOnlyOf T This {Asked} contract says = AsksOnly T This Asked
+
+abbrev pub AsksOnlyOfBoth : (T : Ended) → Need T → {Asked Also : Need T} (contract : Contract T) → RequiresBoth T Asked Also contract → Type 0
+AsksOnlyOfBoth T This {Asked} {Also} contract says = AsksOnly T This (λ κs a. Asked κs a × Also κs a)

@@ -1,172 +1,173 @@
 -- `Outcomes`: the contract of each public function allows one outcome. All crates are here, the lowest
 -- first. docs/PROMISES.md lists what has no such theorem, and why. 01, chapter "Strength of the promises".
 use Rattle.std.specs.Prelude.{◌≡◌}
+use mathlib.Core.Path.{refl}
 use Rattle.parts.specs.declared.Sensor.TheVariants.{Missing, Raw}
 use Rattle.promises.specs.Calls.{answered}
 use Rattle.promises.specs.Promised.{PowersUp, Receives, Ticks, Samples, Slots}
 use Rattle.lent.specs.Questions.{state_code, is_good, position_of, any_waits, goes_if_missing}
 use Rattle.lent.specs.Steps.{sent_as}
-use Rattle.can.proofs as can
-use Rattle.names.proofs as names
-use Rattle.waiting.proofs as waiting
-use Rattle.position.proofs as position
-use Rattle.entries.proofs as entries
-use Rattle.acceptance.proofs as acceptance
-use Rattle.values.proofs as values
-use Rattle.writes.proofs as writes
-use Rattle.requests.proofs as requests
-use Rattle.replies.proofs as replies
-use Rattle.serving.proofs as serving
-use Rattle.states.proofs as states
-use Rattle.counting.proofs as counting
-use Rattle.emergency.proofs as emergency
-use Rattle.heartbeat.proofs as heartbeat
-use Rattle.tpdo.proofs as tpdo
-use Rattle.settling.proofs as settling
-use Rattle.nmt.proofs as nmt
-use Rattle.server.proofs as server
-use Rattle.samples.proofs as samples
-use Rattle.steps.proofs as steps
-use Rattle.head.proofs as head
-use Rattle.lent.proofs as lent
-use Rattle.lines.proofs as lines
-use Rattle.numbers.proofs as numbers
-use Rattle.parsing.proofs as parsing
-use Rattle.printing.proofs as printing
-use Rattle.commands.proofs as commands
-use Rattle.feeding.proofs as feeding
-use Rattle.outcomes.specs.Outcome.{OneOutcome, OneOutcomeOf}
+use Rattle.can.specs.contracts as can
+use Rattle.names.specs.contracts as names
+use Rattle.waiting.specs.contracts as waiting
+use Rattle.position.specs.contracts as position
+use Rattle.entries.specs.contracts as entries
+use Rattle.acceptance.specs.contracts as acceptance
+use Rattle.values.specs.contracts as values
+use Rattle.writes.specs.contracts as writes
+use Rattle.requests.specs.contracts as requests
+use Rattle.replies.specs.contracts as replies
+use Rattle.serving.specs.contracts as serving
+use Rattle.states.specs.contracts as states
+use Rattle.counting.specs.contracts as counting
+use Rattle.emergency.specs.contracts as emergency
+use Rattle.heartbeat.specs.contracts as heartbeat
+use Rattle.tpdo.specs.contracts as tpdo
+use Rattle.settling.specs.contracts as settling
+use Rattle.nmt.specs.contracts as nmt
+use Rattle.server.specs.contracts as server
+use Rattle.samples.specs.contracts as samples
+use Rattle.steps.specs.contracts as steps
+use Rattle.head.specs.contracts as head
+use Rattle.lent.specs.contracts as lent
+use Rattle.lines.specs.contracts as lines
+use Rattle.numbers.specs.contracts as numbers
+use Rattle.parsing.specs.contracts as parsing
+use Rattle.printing.specs.contracts as printing
+use Rattle.commands.specs.contracts as commands
+use Rattle.feeding.specs.contracts as feeding
+use Rattle.outcomes.specs.Outcome.{OneOutcomeOf, OneOutcomeOfBoth}
 
 pub record Outcomes : Type 0 where
-  pub can·refusal : OneOutcome can.refusal.ended can.refusal.Reads.Learnt
-  pub can·word : OneOutcome can.word.ended can.word.Reads.Learnt
-  pub can·long : OneOutcome can.long.ended can.long.Reads.Learnt
-  pub can·long_bytes : OneOutcome can.long_bytes.ended can.long_bytes.Reads.Learnt
-  pub can·bits : OneOutcome can.bits.ended can.bits.Reads.Learnt
-  pub names·is_name : OneOutcome names.is_name.ended names.is_name.Reads.Learnt
-  pub names·unknown : OneOutcome names.unknown.ended names.unknown.Reads.Learnt
-  pub names·short : OneOutcome names.short.ended names.short.Reads.Learnt
-  pub names·runs : OneOutcome names.runs.ended names.runs.Reads.Learnt
-  pub names·started : OneOutcome names.started.ended names.started.Reads.Learnt
-  pub names·toggle : OneOutcome names.toggle.ended names.toggle.Reads.Learnt
-  pub names·named : OneOutcome names.named.ended names.named.Reads.Learnt
-  pub names·segment : OneOutcome names.segment.ended names.segment.Reads.Learnt
-  pub names·next : OneOutcome names.next.ended names.next.Reads.Learnt
-  pub waiting·none : OneOutcome waiting.none.ended waiting.none.Reads.Learnt
-  pub waiting·waits : OneOutcome waiting.waits.ended waiting.waits.Reads.Learnt
-  pub waiting·join : OneOutcome waiting.join.ended waiting.join.Reads.Learnt
-  pub waiting·withdraw : OneOutcome waiting.withdraw.ended waiting.withdraw.Reads.Learnt
-  pub waiting·first : OneOutcome waiting.first.ended waiting.first.Reads.Learnt
-  pub waiting·taken : OneOutcome waiting.taken.ended waiting.taken.Reads.Learnt
-  pub waiting·join_if : OneOutcome waiting.join_if.ended waiting.join_if.Reads.Learnt
-  pub waiting·withdraw_if : OneOutcome waiting.withdraw_if.ended waiting.withdraw_if.Reads.Learnt
-  pub waiting·join_those : OneOutcome waiting.join_those.ended waiting.join_those.Reads.Learnt
-  pub waiting·withdraw_those : OneOutcome waiting.withdraw_those.ended waiting.withdraw_those.Reads.Learnt
-  pub position·scaling : OneOutcome position.scaling.ended position.scaling.Reads.Learnt
-  pub position·inverted : OneOutcome position.inverted.ended position.inverted.Reads.Learnt
-  pub position·directed_of : OneOutcome position.directed_of.ended position.directed_of.Reads.Learnt
-  pub position·position_of : OneOutcome position.position_of.ended position.position_of.Reads.Learnt
-  pub position·preset_to : OneOutcome position.preset_to.ended position.preset_to.Reads.Learnt
-  pub entries·Settings·factory : OneOutcome entries.Settings.factory.ended entries.Settings.factory.Reads.Learnt
-  pub entries·name_of : OneOutcome entries.name_of.ended entries.name_of.Reads.Learnt
-  pub entries·table·find : OneOutcome entries.table.find.ended entries.table.find.Reads.Learnt
-  pub entries·table·altered : OneOutcome entries.table.altered.ended entries.table.altered.Reads.Learnt
-  pub entries·table·key_of : OneOutcome entries.table.key_of.ended entries.table.key_of.Reads.Learnt
-  pub acceptance·abort_code : OneOutcome acceptance.abort_code.ended acceptance.abort_code.Reads.Learnt
-  pub acceptance·value_abort_code : OneOutcome acceptance.value_abort_code.ended acceptance.value_abort_code.Reads.Learnt
-  pub acceptance·is_on : OneOutcome acceptance.is_on.ended acceptance.is_on.Reads.Learnt
-  pub values·read : OneOutcome values.read.ended values.read.Reads.Learnt
-  pub writes·write : OneOutcome writes.write.ended writes.write.Reads.Learnt
-  pub writes·communication_after : OneOutcome writes.communication_after.ended writes.communication_after.Reads.Learnt
-  pub writes·profile_after : OneOutcome writes.profile_after.ended writes.profile_after.Reads.Learnt
-  pub replies·no_reply : OneOutcome replies.no_reply.ended replies.no_reply.Reads.Learnt
-  pub replies·abort : OneOutcome replies.abort.ended replies.abort.Reads.Learnt
-  pub replies·confirm : OneOutcome replies.confirm.ended replies.confirm.Reads.Learnt
-  pub replies·shown : OneOutcome replies.shown.ended replies.shown.Reads.Learnt
-  pub replies·segment : OneOutcome replies.segment.ended replies.segment.Reads.Learnt
-  pub requests·is_abort : OneOutcome requests.is_abort.ended requests.is_abort.Reads.Learnt
-  pub requests·is_segment : OneOutcome requests.is_segment.ended requests.is_segment.Reads.Learnt
-  pub requests·toggle : OneOutcome requests.toggle.ended requests.toggle.Reads.Learnt
-  pub requests·taken_apart : OneOutcome requests.taken_apart.ended requests.taken_apart.Reads.Learnt
-  pub serving·serve : OneOutcome serving.serve.ended serving.serve.Reads.Learnt
-  pub states·is_initialising : OneOutcome states.is_initialising.ended states.is_initialising.Reads.Learnt
-  pub states·is_operational : OneOutcome states.is_operational.ended states.is_operational.Reads.Learnt
-  pub states·is_live : OneOutcome states.is_live.ended states.is_live.Reads.Learnt
-  pub states·same : OneOutcome states.same.ended states.same.Reads.Learnt
-  pub counting·counted : OneOutcome counting.counted.ended counting.counted.Reads.Learnt
-  pub counting·restarted : OneOutcome counting.restarted.ended counting.restarted.Reads.Learnt
-  pub emergency·may_wait : OneOutcome emergency.may_wait.ended emergency.may_wait.Reads.Learnt
-  pub emergency·frame : OneOutcome emergency.frame.ended emergency.frame.Reads.Learnt
-  pub emergency·inhibit_ticks : OneOutcome emergency.inhibit_ticks.ended emergency.inhibit_ticks.Reads.Learnt
-  pub emergency·ticked : OneOutcome emergency.ticked.ended emergency.ticked.Reads.Learnt
-  pub heartbeat·may_wait : OneOutcome heartbeat.may_wait.ended heartbeat.may_wait.Reads.Learnt
-  pub heartbeat·ticked : OneOutcome heartbeat.ticked.ended heartbeat.ticked.Reads.Learnt
-  pub heartbeat·frame : OneOutcome heartbeat.frame.ended heartbeat.frame.Reads.Learnt
-  pub tpdo·is_synchronous : OneOutcome tpdo.is_synchronous.ended tpdo.is_synchronous.Reads.Learnt
-  pub tpdo·may_join : OneOutcome tpdo.may_join.ended tpdo.may_join.Reads.Learnt
-  pub tpdo·may_stay : OneOutcome tpdo.may_stay.ended tpdo.may_stay.Reads.Learnt
-  pub tpdo·uncounted : OneOutcome tpdo.uncounted.ended tpdo.uncounted.Reads.Learnt
-  pub tpdo·ticked : OneOutcome tpdo.ticked.ended tpdo.ticked.Reads.Learnt
-  pub tpdo·synced : OneOutcome tpdo.synced.ended tpdo.synced.Reads.Learnt
-  pub tpdo·written : OneOutcome tpdo.written.ended tpdo.written.Reads.Learnt
-  pub tpdo·frame : OneOutcome tpdo.frame.ended tpdo.frame.Reads.Learnt
-  pub tpdo·sync·sync : OneOutcome tpdo.sync.sync.ended tpdo.sync.sync.Reads.Learnt
-  pub settling·joined : OneOutcome settling.joined.ended settling.joined.Reads.Learnt
-  pub nmt·ordered : OneOutcome nmt.ordered.ended nmt.ordered.Reads.Learnt
-  pub nmt·entry·enter : OneOutcome nmt.entry.enter.ended nmt.entry.enter.Reads.Learnt
-  pub nmt·entry·restart : OneOutcome nmt.entry.restart.ended nmt.entry.restart.Reads.Learnt
-  pub nmt·entry·at_rest : OneOutcome nmt.entry.at_rest.ended nmt.entry.at_rest.Reads.Learnt
-  pub server·serves : OneOutcome server.serves.ended server.serves.Reads.Learnt
-  pub server·frame : OneOutcome server.frame.ended server.frame.Reads.Learnt
-  pub server·effect·reply : OneOutcome server.effect.reply.ended server.effect.reply.Reads.Learnt
-  pub server·effect·empty : OneOutcome server.effect.empty.ended server.effect.empty.Reads.Learnt
-  pub server·effect·save : OneOutcome server.effect.save.ended server.effect.save.Reads.Learnt
-  pub server·effect·scale : OneOutcome server.effect.scale.ended server.effect.scale.Reads.Learnt
-  pub server·effect·configure : OneOutcome server.effect.configure.ended server.effect.configure.Reads.Learnt
-  pub samples·raw : OneOutcome samples.raw.ended samples.raw.Reads.Learnt
-  pub samples·missing : OneOutcome samples.missing.ended samples.missing.Reads.Learnt
-  pub steps·hear·hear : OneOutcome steps.hear.hear.ended steps.hear.hear.Reads.Learnt
-  pub steps·slot·slot : OneOutcome steps.slot.slot.ended steps.slot.slot.Reads.Learnt
-  pub steps·slot·boot : OneOutcome steps.slot.boot.ended steps.slot.boot.Reads.Learnt
-  pub steps·slot·announce : OneOutcome steps.slot.announce.ended steps.slot.announce.Reads.Learnt
-  pub steps·slot·take : OneOutcome steps.slot.take.ended steps.slot.take.Reads.Learnt
-  pub steps·tick·tick : OneOutcome steps.tick.tick.ended steps.tick.tick.Reads.Learnt
-  pub head·power_up : OneOutcome head.power_up.ended head.power_up.Reads.Learnt
-  pub head·refusal : OneOutcome head.refusal.ended head.refusal.Reads.Learnt
-  pub head·powered : OneOutcome head.powered.ended head.powered.Reads.Learnt
-  pub head·receive : OneOutcome head.receive.ended head.receive.Reads.Learnt
-  pub head·tick : OneOutcome head.tick.ended head.tick.Reads.Learnt
-  pub head·sample : OneOutcome head.sample.ended head.sample.Reads.Learnt
-  pub head·sample_missing : OneOutcome head.sample_missing.ended head.sample_missing.Reads.Learnt
-  pub head·sample_raw : OneOutcome head.sample_raw.ended head.sample_raw.Reads.Learnt
-  pub head·slot : OneOutcome head.slot.ended head.slot.Reads.Learnt
-  pub lines·empty : OneOutcome lines.empty.ended lines.empty.Reads.Learnt
-  pub lines·kept : OneOutcome lines.kept.ended lines.kept.Reads.Learnt
-  pub lines·at_most : OneOutcome lines.at_most.ended lines.at_most.Reads.Learnt
-  pub lines·push : OneOutcome lines.push.ended lines.push.Reads.Learnt
-  pub numbers·read : OneOutcome numbers.read.ended numbers.read.Reads.Learnt
-  pub parsing·parse_line : OneOutcome parsing.parse_line.ended parsing.parse_line.Reads.Learnt
-  pub parsing·parse : OneOutcome parsing.parse.ended parsing.parse.Reads.Learnt
-  pub printing·frame : OneOutcome printing.frame.ended printing.frame.Reads.Learnt
-  pub printing·none : OneOutcome printing.none.ended printing.none.Reads.Learnt
-  pub printing·refusal : OneOutcome printing.refusal.ended printing.refusal.Reads.Learnt
-  pub commands·obey : OneOutcome commands.obey.ended commands.obey.Reads.Learnt
-  pub feeding·start : OneOutcome feeding.start.ended feeding.start.Reads.Learnt
-  pub feeding·answer : OneOutcome feeding.answer.ended feeding.answer.Reads.Learnt
-  pub feeding·feed : OneOutcome feeding.feed.ended feeding.feed.Reads.Learnt
-  pub feeding·chunk : OneOutcome feeding.chunk.ended feeding.chunk.Reads.Learnt
-  pub feeding·close : OneOutcome feeding.close.ended feeding.close.Reads.Learnt
+  pub can·refusal : OneOutcomeOf can.refusal.ended (λ M 𝓤. can.refusal.clauses) (λ M 𝓤 𝓛 m f κs a g r e. refl)
+  pub can·word : OneOutcomeOf can.word.ended (λ M 𝓤. can.word.clauses) (λ M 𝓤 𝓛 m f κs a g r e. refl)
+  pub can·long : OneOutcomeOf can.long.ended (λ M 𝓤. can.long.clauses) (λ M 𝓤 𝓛 m f κs a g r e. refl)
+  pub can·long_bytes : OneOutcomeOf can.long_bytes.ended (λ M 𝓤. can.long_bytes.clauses) (λ M 𝓤 𝓛 m f κs a g r e. refl)
+  pub can·bits : OneOutcomeOf can.bits.ended (λ M 𝓤. can.bits.clauses) (λ M 𝓤 𝓛 m f κs a g r e. refl)
+  pub names·is_name : OneOutcomeOfBoth names.is_name.ended (λ M 𝓤. names.is_name.clauses) (λ M 𝓤 𝓛 m f κs a g r e. refl)
+  pub names·unknown : OneOutcomeOf names.unknown.ended (λ M 𝓤. names.unknown.clauses) (λ M 𝓤 𝓛 m f κs a g r e. refl)
+  pub names·short : OneOutcomeOf names.short.ended (λ M 𝓤. names.short.clauses) (λ M 𝓤 𝓛 m f κs a g r e. refl)
+  pub names·runs : OneOutcomeOf names.runs.ended (λ M 𝓤. names.runs.clauses) (λ M 𝓤 𝓛 m f κs a g r e. refl)
+  pub names·started : OneOutcomeOf names.started.ended (λ M 𝓤. names.started.clauses) (λ M 𝓤 𝓛 m f κs a g r e. refl)
+  pub names·toggle : OneOutcomeOf names.toggle.ended (λ M 𝓤. names.toggle.clauses) (λ M 𝓤 𝓛 m f κs a g r e. refl)
+  pub names·named : OneOutcomeOf names.named.ended (λ M 𝓤. names.named.clauses) (λ M 𝓤 𝓛 m f κs a g r e. refl)
+  pub names·segment : OneOutcomeOf names.segment.ended (λ M 𝓤. names.segment.clauses) (λ M 𝓤 𝓛 m f κs a g r e. refl)
+  pub names·next : OneOutcomeOf names.next.ended (λ M 𝓤. names.next.clauses) (λ M 𝓤 𝓛 m f κs a g r e. refl)
+  pub waiting·none : OneOutcomeOf waiting.none.ended (λ M 𝓤. waiting.none.clauses) (λ M 𝓤 𝓛 m f κs a g r e. refl)
+  pub waiting·waits : OneOutcomeOf waiting.waits.ended (λ M 𝓤. waiting.waits.clauses) (λ M 𝓤 𝓛 m f κs a g r e. refl)
+  pub waiting·join : OneOutcomeOf waiting.join.ended (λ M 𝓤. waiting.join.clauses) (λ M 𝓤 𝓛 m f κs a g r e. refl)
+  pub waiting·withdraw : OneOutcomeOf waiting.withdraw.ended (λ M 𝓤. waiting.withdraw.clauses) (λ M 𝓤 𝓛 m f κs a g r e. refl)
+  pub waiting·first : OneOutcomeOf waiting.first.ended (λ M 𝓤. waiting.first.clauses) (λ M 𝓤 𝓛 m f κs a g r e. refl)
+  pub waiting·taken : OneOutcomeOf waiting.taken.ended (λ M 𝓤. waiting.taken.clauses) (λ M 𝓤 𝓛 m f κs a g r e. refl)
+  pub waiting·join_if : OneOutcomeOf waiting.join_if.ended (λ M 𝓤. waiting.join_if.clauses) (λ M 𝓤 𝓛 m f κs a g r e. refl)
+  pub waiting·withdraw_if : OneOutcomeOf waiting.withdraw_if.ended (λ M 𝓤. waiting.withdraw_if.clauses) (λ M 𝓤 𝓛 m f κs a g r e. refl)
+  pub waiting·join_those : OneOutcomeOf waiting.join_those.ended (λ M 𝓤. waiting.join_those.clauses) (λ M 𝓤 𝓛 m f κs a g r e. refl)
+  pub waiting·withdraw_those : OneOutcomeOf waiting.withdraw_those.ended (λ M 𝓤. waiting.withdraw_those.clauses) (λ M 𝓤 𝓛 m f κs a g r e. refl)
+  pub position·scaling : OneOutcomeOf position.scaling.ended (λ M 𝓤. position.scaling.clauses) (λ M 𝓤 𝓛 m f κs a g r e. refl)
+  pub position·inverted : OneOutcomeOf position.inverted.ended (λ M 𝓤. position.inverted.clauses) (λ M 𝓤 𝓛 m f κs a g r e. refl)
+  pub position·directed_of : OneOutcomeOf position.directed_of.ended (λ M 𝓤. position.directed_of.clauses) (λ M 𝓤 𝓛 m f κs a g r e. refl)
+  pub position·position_of : OneOutcomeOf position.position_of.ended (λ M 𝓤. position.position_of.clauses) (λ M 𝓤 𝓛 m f κs a g r e. refl)
+  pub position·preset_to : OneOutcomeOf position.preset_to.ended (λ M 𝓤. position.preset_to.clauses) (λ M 𝓤 𝓛 m f κs a g r e. refl)
+  pub entries·Settings·factory : OneOutcomeOf entries.Settings.factory.ended (λ M 𝓤. entries.Settings.factory.clauses) (λ M 𝓤 𝓛 m f κs a g r e. refl)
+  pub entries·name_of : OneOutcomeOf entries.name_of.ended (λ M 𝓤. entries.name_of.clauses) (λ M 𝓤 𝓛 m f κs a g r e. refl)
+  pub entries·table·find : OneOutcomeOf entries.table.find.ended (λ M 𝓤. entries.table.find.clauses) (λ M 𝓤 𝓛 m f κs a g r e. refl)
+  pub entries·table·altered : OneOutcomeOf entries.table.altered.ended (λ M 𝓤. entries.table.altered.clauses) (λ M 𝓤 𝓛 m f κs a g r e. refl)
+  pub entries·table·key_of : OneOutcomeOf entries.table.key_of.ended (λ M 𝓤. entries.table.key_of.clauses) (λ M 𝓤 𝓛 m f κs a g r e. refl)
+  pub acceptance·abort_code : OneOutcomeOf acceptance.abort_code.ended (λ M 𝓤. acceptance.abort_code.clauses) (λ M 𝓤 𝓛 m f κs a g r e. refl)
+  pub acceptance·value_abort_code : OneOutcomeOf acceptance.value_abort_code.ended (λ M 𝓤. acceptance.value_abort_code.clauses) (λ M 𝓤 𝓛 m f κs a g r e. refl)
+  pub acceptance·is_on : OneOutcomeOf acceptance.is_on.ended (λ M 𝓤. acceptance.is_on.clauses) (λ M 𝓤 𝓛 m f κs a g r e. refl)
+  pub values·read : OneOutcomeOf values.read.ended (λ M 𝓤. values.read.clauses) (λ M 𝓤 𝓛 m f κs a g r e. refl)
+  pub writes·write : OneOutcomeOf writes.write.ended (λ M 𝓤. writes.write.clauses) (λ M 𝓤 𝓛 m f κs a g r e. refl)
+  pub writes·communication_after : OneOutcomeOf writes.communication_after.ended (λ M 𝓤. writes.communication_after.clauses) (λ M 𝓤 𝓛 m f κs a g r e. refl)
+  pub writes·profile_after : OneOutcomeOf writes.profile_after.ended (λ M 𝓤. writes.profile_after.clauses) (λ M 𝓤 𝓛 m f κs a g r e. refl)
+  pub replies·no_reply : OneOutcomeOf replies.no_reply.ended (λ M 𝓤. replies.no_reply.clauses) (λ M 𝓤 𝓛 m f κs a g r e. refl)
+  pub replies·abort : OneOutcomeOf replies.abort.ended (λ M 𝓤. replies.abort.clauses) (λ M 𝓤 𝓛 m f κs a g r e. refl)
+  pub replies·confirm : OneOutcomeOf replies.confirm.ended (λ M 𝓤. replies.confirm.clauses) (λ M 𝓤 𝓛 m f κs a g r e. refl)
+  pub replies·shown : OneOutcomeOf replies.shown.ended (λ M 𝓤. replies.shown.clauses) (λ M 𝓤 𝓛 m f κs a g r e. refl)
+  pub replies·segment : OneOutcomeOf replies.segment.ended (λ M 𝓤. replies.segment.clauses) (λ M 𝓤 𝓛 m f κs a g r e. refl)
+  pub requests·is_abort : OneOutcomeOf requests.is_abort.ended (λ M 𝓤. requests.is_abort.clauses) (λ M 𝓤 𝓛 m f κs a g r e. refl)
+  pub requests·is_segment : OneOutcomeOf requests.is_segment.ended (λ M 𝓤. requests.is_segment.clauses) (λ M 𝓤 𝓛 m f κs a g r e. refl)
+  pub requests·toggle : OneOutcomeOf requests.toggle.ended (λ M 𝓤. requests.toggle.clauses) (λ M 𝓤 𝓛 m f κs a g r e. refl)
+  pub requests·taken_apart : OneOutcomeOf requests.taken_apart.ended (λ M 𝓤. requests.taken_apart.clauses) (λ M 𝓤 𝓛 m f κs a g r e. refl)
+  pub serving·serve : OneOutcomeOf serving.serve.ended (λ M 𝓤. serving.serve.clauses) (λ M 𝓤 𝓛 m f κs a g r e. refl)
+  pub states·is_initialising : OneOutcomeOf states.is_initialising.ended (λ M 𝓤. states.is_initialising.clauses) (λ M 𝓤 𝓛 m f κs a g r e. refl)
+  pub states·is_operational : OneOutcomeOf states.is_operational.ended (λ M 𝓤. states.is_operational.clauses) (λ M 𝓤 𝓛 m f κs a g r e. refl)
+  pub states·is_live : OneOutcomeOf states.is_live.ended (λ M 𝓤. states.is_live.clauses) (λ M 𝓤 𝓛 m f κs a g r e. refl)
+  pub states·same : OneOutcomeOf states.same.ended (λ M 𝓤. states.same.clauses) (λ M 𝓤 𝓛 m f κs a g r e. refl)
+  pub counting·counted : OneOutcomeOf counting.counted.ended (λ M 𝓤. counting.counted.clauses) (λ M 𝓤 𝓛 m f κs a g r e. refl)
+  pub counting·restarted : OneOutcomeOf counting.restarted.ended (λ M 𝓤. counting.restarted.clauses) (λ M 𝓤 𝓛 m f κs a g r e. refl)
+  pub emergency·may_wait : OneOutcomeOf emergency.may_wait.ended (λ M 𝓤. emergency.may_wait.clauses) (λ M 𝓤 𝓛 m f κs a g r e. refl)
+  pub emergency·frame : OneOutcomeOf emergency.frame.ended (λ M 𝓤. emergency.frame.clauses) (λ M 𝓤 𝓛 m f κs a g r e. refl)
+  pub emergency·inhibit_ticks : OneOutcomeOf emergency.inhibit_ticks.ended (λ M 𝓤. emergency.inhibit_ticks.clauses) (λ M 𝓤 𝓛 m f κs a g r e. refl)
+  pub emergency·ticked : OneOutcomeOf emergency.ticked.ended (λ M 𝓤. emergency.ticked.clauses) (λ M 𝓤 𝓛 m f κs a g r e. refl)
+  pub heartbeat·may_wait : OneOutcomeOf heartbeat.may_wait.ended (λ M 𝓤. heartbeat.may_wait.clauses) (λ M 𝓤 𝓛 m f κs a g r e. refl)
+  pub heartbeat·ticked : OneOutcomeOf heartbeat.ticked.ended (λ M 𝓤. heartbeat.ticked.clauses) (λ M 𝓤 𝓛 m f κs a g r e. refl)
+  pub heartbeat·frame : OneOutcomeOf heartbeat.frame.ended (λ M 𝓤. heartbeat.frame.clauses) (λ M 𝓤 𝓛 m f κs a g r e. refl)
+  pub tpdo·is_synchronous : OneOutcomeOf tpdo.is_synchronous.ended (λ M 𝓤. tpdo.is_synchronous.clauses) (λ M 𝓤 𝓛 m f κs a g r e. refl)
+  pub tpdo·may_join : OneOutcomeOf tpdo.may_join.ended (λ M 𝓤. tpdo.may_join.clauses) (λ M 𝓤 𝓛 m f κs a g r e. refl)
+  pub tpdo·may_stay : OneOutcomeOf tpdo.may_stay.ended (λ M 𝓤. tpdo.may_stay.clauses) (λ M 𝓤 𝓛 m f κs a g r e. refl)
+  pub tpdo·uncounted : OneOutcomeOf tpdo.uncounted.ended (λ M 𝓤. tpdo.uncounted.clauses) (λ M 𝓤 𝓛 m f κs a g r e. refl)
+  pub tpdo·ticked : OneOutcomeOf tpdo.ticked.ended (λ M 𝓤. tpdo.ticked.clauses) (λ M 𝓤 𝓛 m f κs a g r e. refl)
+  pub tpdo·synced : OneOutcomeOf tpdo.synced.ended (λ M 𝓤. tpdo.synced.clauses) (λ M 𝓤 𝓛 m f κs a g r e. refl)
+  pub tpdo·written : OneOutcomeOf tpdo.written.ended (λ M 𝓤. tpdo.written.clauses) (λ M 𝓤 𝓛 m f κs a g r e. refl)
+  pub tpdo·frame : OneOutcomeOf tpdo.frame.ended (λ M 𝓤. tpdo.frame.clauses) (λ M 𝓤 𝓛 m f κs a g r e. refl)
+  pub tpdo·sync·sync : OneOutcomeOf tpdo.sync.sync.ended (λ M 𝓤. tpdo.sync.sync.clauses) (λ M 𝓤 𝓛 m f κs a g r e. refl)
+  pub settling·joined : OneOutcomeOf settling.joined.ended (λ M 𝓤. settling.joined.clauses) (λ M 𝓤 𝓛 m f κs a g r e. refl)
+  pub nmt·ordered : OneOutcomeOf nmt.ordered.ended (λ M 𝓤. nmt.ordered.clauses) (λ M 𝓤 𝓛 m f κs a g r e. refl)
+  pub nmt·entry·enter : OneOutcomeOf nmt.entry.enter.ended (λ M 𝓤. nmt.entry.enter.clauses) (λ M 𝓤 𝓛 m f κs a g r e. refl)
+  pub nmt·entry·restart : OneOutcomeOf nmt.entry.restart.ended (λ M 𝓤. nmt.entry.restart.clauses) (λ M 𝓤 𝓛 m f κs a g r e. refl)
+  pub nmt·entry·at_rest : OneOutcomeOf nmt.entry.at_rest.ended (λ M 𝓤. nmt.entry.at_rest.clauses) (λ M 𝓤 𝓛 m f κs a g r e. refl)
+  pub server·serves : OneOutcomeOf server.serves.ended (λ M 𝓤. server.serves.clauses) (λ M 𝓤 𝓛 m f κs a g r e. refl)
+  pub server·frame : OneOutcomeOf server.frame.ended (λ M 𝓤. server.frame.clauses) (λ M 𝓤 𝓛 m f κs a g r e. refl)
+  pub server·effect·reply : OneOutcomeOf server.effect.reply.ended (λ M 𝓤. server.effect.reply.clauses) (λ M 𝓤 𝓛 m f κs a g r e. refl)
+  pub server·effect·empty : OneOutcomeOf server.effect.empty.ended (λ M 𝓤. server.effect.empty.clauses) (λ M 𝓤 𝓛 m f κs a g r e. refl)
+  pub server·effect·save : OneOutcomeOf server.effect.save.ended (λ M 𝓤. server.effect.save.clauses) (λ M 𝓤 𝓛 m f κs a g r e. refl)
+  pub server·effect·scale : OneOutcomeOf server.effect.scale.ended (λ M 𝓤. server.effect.scale.clauses) (λ M 𝓤 𝓛 m f κs a g r e. refl)
+  pub server·effect·configure : OneOutcomeOf server.effect.configure.ended (λ M 𝓤. server.effect.configure.clauses) (λ M 𝓤 𝓛 m f κs a g r e. refl)
+  pub samples·raw : OneOutcomeOf samples.raw.ended (λ M 𝓤. samples.raw.clauses) (λ M 𝓤 𝓛 m f κs a g r e. refl)
+  pub samples·missing : OneOutcomeOf samples.missing.ended (λ M 𝓤. samples.missing.clauses) (λ M 𝓤 𝓛 m f κs a g r e. refl)
+  pub steps·hear·hear : OneOutcomeOf steps.hear.hear.ended (λ M 𝓤. steps.hear.hear.clauses) (λ M 𝓤 𝓛 m f κs a g r e. refl)
+  pub steps·slot·slot : OneOutcomeOf steps.slot.slot.ended (λ M 𝓤. steps.slot.slot.clauses) (λ M 𝓤 𝓛 m f κs a g r e. refl)
+  pub steps·slot·boot : OneOutcomeOf steps.slot.boot.ended (λ M 𝓤. steps.slot.boot.clauses) (λ M 𝓤 𝓛 m f κs a g r e. refl)
+  pub steps·slot·announce : OneOutcomeOf steps.slot.announce.ended (λ M 𝓤. steps.slot.announce.clauses) (λ M 𝓤 𝓛 m f κs a g r e. refl)
+  pub steps·slot·take : OneOutcomeOf steps.slot.take.ended (λ M 𝓤. steps.slot.take.clauses) (λ M 𝓤 𝓛 m f κs a g r e. refl)
+  pub steps·tick·tick : OneOutcomeOf steps.tick.tick.ended (λ M 𝓤. steps.tick.tick.clauses) (λ M 𝓤 𝓛 m f κs a g r e. refl)
+  pub head·power_up : OneOutcomeOf head.power_up.ended (λ M 𝓤. head.power_up.clauses) (λ M 𝓤 𝓛 m f κs a g r e. refl)
+  pub head·refusal : OneOutcomeOfBoth head.refusal.ended (λ M 𝓤. head.refusal.clauses) (λ M 𝓤 𝓛 m f κs a g r e. refl)
+  pub head·powered : OneOutcomeOf head.powered.ended (λ M 𝓤. head.powered.clauses) (λ M 𝓤 𝓛 m f κs a g r e. refl)
+  pub head·receive : OneOutcomeOf head.receive.ended (λ M 𝓤. head.receive.clauses) (λ M 𝓤 𝓛 m f κs a g r e. refl)
+  pub head·tick : OneOutcomeOf head.tick.ended (λ M 𝓤. head.tick.clauses) (λ M 𝓤 𝓛 m f κs a g r e. refl)
+  pub head·sample : OneOutcomeOf head.sample.ended (λ M 𝓤. head.sample.clauses) (λ M 𝓤 𝓛 m f κs a g r e. refl)
+  pub head·sample_missing : OneOutcomeOf head.sample_missing.ended (λ M 𝓤. head.sample_missing.clauses) (λ M 𝓤 𝓛 m f κs a g r e. refl)
+  pub head·sample_raw : OneOutcomeOf head.sample_raw.ended (λ M 𝓤. head.sample_raw.clauses) (λ M 𝓤 𝓛 m f κs a g r e. refl)
+  pub head·slot : OneOutcomeOf head.slot.ended (λ M 𝓤. head.slot.clauses) (λ M 𝓤 𝓛 m f κs a g r e. refl)
+  pub lines·empty : OneOutcomeOf lines.empty.ended (λ M 𝓤. lines.empty.clauses) (λ M 𝓤 𝓛 m f κs a g r e. refl)
+  pub lines·kept : OneOutcomeOf lines.kept.ended (λ M 𝓤. lines.kept.clauses) (λ M 𝓤 𝓛 m f κs a g r e. refl)
+  pub lines·at_most : OneOutcomeOf lines.at_most.ended (λ M 𝓤. lines.at_most.clauses) (λ M 𝓤 𝓛 m f κs a g r e. refl)
+  pub lines·push : OneOutcomeOf lines.push.ended (λ M 𝓤. lines.push.clauses) (λ M 𝓤 𝓛 m f κs a g r e. refl)
+  pub numbers·read : OneOutcomeOf numbers.read.ended (λ M 𝓤. numbers.read.clauses) (λ M 𝓤 𝓛 m f κs a g r e. refl)
+  pub parsing·parse_line : OneOutcomeOf parsing.parse_line.ended (λ M 𝓤. parsing.parse_line.clauses) (λ M 𝓤 𝓛 m f κs a g r e. refl)
+  pub parsing·parse : OneOutcomeOf parsing.parse.ended (λ M 𝓤. parsing.parse.clauses) (λ M 𝓤 𝓛 m f κs a g r e. refl)
+  pub printing·frame : OneOutcomeOf printing.frame.ended (λ M 𝓤. printing.frame.clauses) (λ M 𝓤 𝓛 m f κs a g r e. refl)
+  pub printing·none : OneOutcomeOf printing.none.ended (λ M 𝓤. printing.none.clauses) (λ M 𝓤 𝓛 m f κs a g r e. refl)
+  pub printing·refusal : OneOutcomeOf printing.refusal.ended (λ M 𝓤. printing.refusal.clauses) (λ M 𝓤 𝓛 m f κs a g r e. refl)
+  pub commands·obey : OneOutcomeOf commands.obey.ended (λ M 𝓤. commands.obey.clauses) (λ M 𝓤 𝓛 m f κs a g r e. refl)
+  pub feeding·start : OneOutcomeOf feeding.start.ended (λ M 𝓤. feeding.start.clauses) (λ M 𝓤 𝓛 m f κs a g r e. refl)
+  pub feeding·answer : OneOutcomeOf feeding.answer.ended (λ M 𝓤. feeding.answer.clauses) (λ M 𝓤 𝓛 m f κs a g r e. refl)
+  pub feeding·feed : OneOutcomeOf feeding.feed.ended (λ M 𝓤. feeding.feed.clauses) (λ M 𝓤 𝓛 m f κs a g r e. refl)
+  pub feeding·chunk : OneOutcomeOf feeding.chunk.ended (λ M 𝓤. feeding.chunk.clauses) (λ M 𝓤 𝓛 m f κs a g r e. refl)
+  pub feeding·close : OneOutcomeOf feeding.close.ended (λ M 𝓤. feeding.close.clauses) (λ M 𝓤 𝓛 m f κs a g r e. refl)
 
--- The calls of `lent`: their clauses are about any memory, so no function can ensure this statement.
-pub record LentOutcomes : Type 2 where
-  pub lent·haybleater_power_up : OneOutcomeOf lent.haybleater_power_up.ended (λ κs a r e. PowersUp a.1.0.node a.1.0.identity (answered r e.0.now)) (λ M. lent.haybleater_power_up.clauses {M = M})
-  pub lent·haybleater_receive : OneOutcomeOf lent.haybleater_receive.ended (λ κs a r e. Receives a.0.now a.1.0 (answered r e.0.now)) (λ M. lent.haybleater_receive.clauses {M = M})
-  pub lent·haybleater_tick : OneOutcomeOf lent.haybleater_tick.ended (λ κs a r e. Ticks a.0.now e.0.now) (λ M. lent.haybleater_tick.clauses {M = M})
-  pub lent·haybleater_sample : OneOutcomeOf lent.haybleater_sample.ended (λ κs a r e. Samples a.0.now (Raw a.1.0) (answered r e.0.now)) (λ M. lent.haybleater_sample.clauses {M = M})
-  pub lent·haybleater_missing : OneOutcomeOf lent.haybleater_missing.ended (λ κs a r e. Samples a.0.now Missing (answered 0 e.0.now)) (λ M. lent.haybleater_missing.clauses {M = M})
-  pub lent·haybleater_slot : OneOutcomeOf lent.haybleater_slot.ended (λ κs a r e. Slots a.0.now (sent_as r e.0.now)) (λ M. lent.haybleater_slot.clauses {M = M})
-  pub lent·haybleater_state : OneOutcomeOf lent.haybleater_state.ended (λ κs a r e. r ≡ state_code a.0.now) (λ M. lent.haybleater_state.clauses {M = M})
-  pub lent·haybleater_good : OneOutcomeOf lent.haybleater_good.ended (λ κs a r e. r ≡ is_good a.0.now) (λ M. lent.haybleater_good.clauses {M = M})
-  pub lent·haybleater_position : OneOutcomeOf lent.haybleater_position.ended (λ κs a r e. r ≡ position_of a.0.now) (λ M. lent.haybleater_position.clauses {M = M})
-  pub lent·haybleater_goes_if_missing : OneOutcomeOf lent.haybleater_goes_if_missing.ended (λ κs a r e. r ≡ goes_if_missing a.0.now) (λ M. lent.haybleater_goes_if_missing.clauses {M = M})
-  pub lent·haybleater_waits : OneOutcomeOf lent.haybleater_waits.ended (λ κs a r e. r ≡ any_waits a.0.now) (λ M. lent.haybleater_waits.clauses {M = M})
+-- The calls of `lent`, with what each ensures.
+pub record LentOutcomes : Type 0 where
+  pub lent·haybleater_power_up : OneOutcomeOf lent.haybleater_power_up.ended {This = λ κs a r e. PowersUp a.1.0.node a.1.0.identity (answered r e.0.now)} (λ M 𝓤. lent.haybleater_power_up.clauses) (λ M 𝓤 𝓛 m f κs a g r e. refl)
+  pub lent·haybleater_receive : OneOutcomeOf lent.haybleater_receive.ended {This = λ κs a r e. Receives a.0.now a.1.0 (answered r e.0.now)} (λ M 𝓤. lent.haybleater_receive.clauses) (λ M 𝓤 𝓛 m f κs a g r e. refl)
+  pub lent·haybleater_tick : OneOutcomeOf lent.haybleater_tick.ended {This = λ κs a r e. Ticks a.0.now e.0.now} (λ M 𝓤. lent.haybleater_tick.clauses) (λ M 𝓤 𝓛 m f κs a g r e. refl)
+  pub lent·haybleater_sample : OneOutcomeOf lent.haybleater_sample.ended {This = λ κs a r e. Samples a.0.now (Raw a.1.0) (answered r e.0.now)} (λ M 𝓤. lent.haybleater_sample.clauses) (λ M 𝓤 𝓛 m f κs a g r e. refl)
+  pub lent·haybleater_missing : OneOutcomeOf lent.haybleater_missing.ended {This = λ κs a r e. Samples a.0.now Missing (answered 0 e.0.now)} (λ M 𝓤. lent.haybleater_missing.clauses) (λ M 𝓤 𝓛 m f κs a g r e. refl)
+  pub lent·haybleater_slot : OneOutcomeOf lent.haybleater_slot.ended {This = λ κs a r e. Slots a.0.now (sent_as r e.0.now)} (λ M 𝓤. lent.haybleater_slot.clauses) (λ M 𝓤 𝓛 m f κs a g r e. refl)
+  pub lent·haybleater_state : OneOutcomeOf lent.haybleater_state.ended {This = λ κs a r e. r ≡ state_code a.0.now} (λ M 𝓤. lent.haybleater_state.clauses) (λ M 𝓤 𝓛 m f κs a g r e. refl)
+  pub lent·haybleater_good : OneOutcomeOf lent.haybleater_good.ended {This = λ κs a r e. r ≡ is_good a.0.now} (λ M 𝓤. lent.haybleater_good.clauses) (λ M 𝓤 𝓛 m f κs a g r e. refl)
+  pub lent·haybleater_position : OneOutcomeOf lent.haybleater_position.ended {This = λ κs a r e. r ≡ position_of a.0.now} (λ M 𝓤. lent.haybleater_position.clauses) (λ M 𝓤 𝓛 m f κs a g r e. refl)
+  pub lent·haybleater_goes_if_missing : OneOutcomeOf lent.haybleater_goes_if_missing.ended {This = λ κs a r e. r ≡ goes_if_missing a.0.now} (λ M 𝓤. lent.haybleater_goes_if_missing.clauses) (λ M 𝓤 𝓛 m f κs a g r e. refl)
+  pub lent·haybleater_waits : OneOutcomeOf lent.haybleater_waits.ended {This = λ κs a r e. r ≡ any_waits a.0.now} (λ M 𝓤. lent.haybleater_waits.clauses) (λ M 𝓤 𝓛 m f κs a g r e. refl)

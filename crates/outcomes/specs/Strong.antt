@@ -2,8 +2,8 @@
 -- every contract, or compared the answers only, this would be false. So it would be if `AsksNothing` and the others held of every contract.
 use contract.Lifetimes.{Lfts}
 use denote.Triple.Entry.{Args}
-use Rattle.can.proofs as can
-use Rattle.lent.proofs as lent
+use Rattle.can.specs.contracts as can
+use Rattle.lent.specs.contracts as lent
 use Rattle.outcomes.specs.Outcome.{OneOutcome, Promises, AsksNothing, AsksOnly}
 
 pub record Strong : Type 0 where
