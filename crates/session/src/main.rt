@@ -5,6 +5,7 @@
 ghost use Rattle.std.specs.Prelude.{◌≤◌, length};
 ghost use Rattle.promises.specs.Valid.{Valid};
 
+use std::io;
 use std::io::{Read, Write};
 use transcript::Session;
 
@@ -43,8 +44,8 @@ fn turn(rt: &HostRuntime, session: Session, out: &mut [u8]) -> After
                 session: done.session,
             }
         }
-        Err(_) => {
-            report(rt, "session: cannot read");
+        Err(error) => {
+            report(rt, "session: cannot read", error);
             After {
                 more: false,
                 session,
@@ -66,16 +67,28 @@ fn finish(rt: &HostRuntime, session: Session)
 fn print(rt: &HostRuntime, bytes: &[u8]) -> bool {
     match rt.stdout().write_all(bytes) {
         Ok(()) => true,
-        Err(_) => {
-            report(rt, "session: cannot write");
+        Err(error) => {
+            report(rt, "session: cannot write", error);
             false
         }
     }
 }
 
 // Nothing is left to be done if standard error cannot be written either.
-fn report(rt: &HostRuntime, message: &str) {
-    let _ = eprintln!(rt; "{message}");
+fn report(rt: &HostRuntime, message: &str, error: io::Error) {
+    let Ok(text) = format!(in rt.alloc(); "{message}: {error}") else {
+        return;
+    };
+    let said = in_words(text.as_str());
+    let _ = eprintln!(rt; "{said}");
+}
+
+// The text of an error without the number that std adds.
+fn in_words(text: &str) -> &str {
+    match text.split_once(" (os error") {
+        Some((words, _)) => words,
+        None => text,
+    }
 }
 
 fn main(rt: HostRuntime) {
