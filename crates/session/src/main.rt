@@ -5,7 +5,6 @@
 ghost use Rattle.std.specs.Prelude.{◌≤◌, length};
 ghost use Rattle.promises.specs.Valid.{Valid};
 
-use std::io;
 use std::io::{Read, Write};
 use transcript::Session;
 
@@ -44,8 +43,8 @@ fn turn(rt: &HostRuntime, session: Session, out: &mut [u8]) -> After
                 session: done.session,
             }
         }
-        Err(error) => {
-            report(rt, "session: cannot read", error);
+        Err(_) => {
+            report(rt, "session: cannot read");
             After {
                 more: false,
                 session,
@@ -67,16 +66,16 @@ fn finish(rt: &HostRuntime, session: Session)
 fn print(rt: &HostRuntime, bytes: &[u8]) -> bool {
     match rt.stdout().write_all(bytes) {
         Ok(()) => true,
-        Err(error) => {
-            report(rt, "session: cannot write", error);
+        Err(_) => {
+            report(rt, "session: cannot write");
             false
         }
     }
 }
 
 // Nothing is left to be done if standard error cannot be written either.
-fn report(rt: &HostRuntime, message: &str, error: io::Error) {
-    let _ = eprintln!(rt; "{message}: {error}");
+fn report(rt: &HostRuntime, message: &str) {
+    let _ = eprintln!(rt; "{message}");
 }
 
 fn main(rt: HostRuntime) {
