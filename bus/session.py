@@ -16,7 +16,7 @@ MARKED = ["E 3", "E 1"]
 def run(text):
     """The bytes that the session prints for the bytes of its input."""
     if not PROGRAM.exists():
-        sys.exit("there is no session program: run `rt check session` first")
+        sys.exit("there is no session program: run `tools/session` first")
     command = [ROOT / "host" / "run", PROGRAM]
     return subprocess.run(command, input=text, stdout=subprocess.PIPE, check=True).stdout
 

@@ -171,7 +171,7 @@ static inline bool haybleater_is_position(uint32_t identifier)
 }
 
 /*
- * Which archive is linked. 0: that of `rt staticlib lent`, for x86-64 Linux, which has the calls as they are declared below. 1: one of
+ * Which archive is linked. 0: that of host/build, for x86-64 Linux, which has the calls as they are declared below. 1: one of
  * host/cross, for another processor; its exports take and answer by pointer only, and the calls are small functions over them, which
  * the host's compiler compiles. If the number does not fit the archive, linking fails.
  */

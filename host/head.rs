@@ -10,7 +10,7 @@
 #[repr(C)] #[derive(Clone, Copy)] pub struct Outgoing { pub waited: bool, pub frame: Frame }
 #[repr(C)] #[derive(Clone, Copy)] pub struct Located { pub known: bool, pub position: u32 }
 
-extern "C" { // the archive of `rt staticlib lent`; in edition 2024: unsafe extern "C"
+extern "C" { // the archive of host/build; in edition 2024: unsafe extern "C"
     pub fn haybleater_power_up(head: *mut Head, setup: Setup) -> u8;
     pub fn haybleater_receive(head: *mut Head, frame: Received) -> u8;
     pub fn haybleater_tick(head: *mut Head);

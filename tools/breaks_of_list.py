@@ -73,8 +73,8 @@ BREAKS = [
     ("specification", "row 0x6005 1 U32 rw (Between 5000", "row 0x6005 1 U32 rw (Between 1000",
      "6005-1: accepted is Between 5000 1000000 in the code, Between 1000"),
     ("specification", "    row 0x6504 0", "    line 0x6504 0", "not a line of the specification's list"),
-    ("specification", "(0x1017_00, c .heartbeat)", "(0x1017_00, c .pulse)", "1017-0: the factory settings have no .pulse"),
-    ("specification", "    (0x1017_00, c .heartbeat) ∷\n", "", "1017-0: no factory value"),
+    ("specification", "(0x1017_00, c.heartbeat)", "(0x1017_00, c.pulse)", "1017-0: the factory settings have no .pulse"),
+    ("specification", "    (0x1017_00, c.heartbeat) ∷\n", "", "1017-0: no factory value"),
     ("page", "| 1801-5 | U16 rw | 0; all |\n", "", "+| 1801-5 | U16 rw | 0; all |"),
 ]
 

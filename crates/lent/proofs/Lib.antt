@@ -1,5 +1,1 @@
-pub mod Fields
-pub mod Parts
 pub mod Questions
-pub mod Results
-pub mod Rows

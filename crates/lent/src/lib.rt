@@ -1,5 +1,5 @@
 //! The head for a host that keeps it in its own memory and lends it for each
-//! call; C and Rust link these functions. 01, "The head and its neighbours".
+//! call; crate `lent_c` exports these functions to C and Rust. 01, "The head and its neighbours".
 //! Each call passes parts of the head to a step by value and stores the parts that come back.
 
 #![tactic(auto)]
@@ -31,8 +31,7 @@ pub struct Located {
 }
 
 // The memory may hold anything before: it is not read. A refused power-up leaves a head too, of node 1 with identity numbers 0 and names "?".
-#[unsafe(no_mangle)]
-pub extern "C" fn haybleater_power_up(head: &mut Head, setup: Setup) -> u8
+pub fn haybleater_power_up(head: &mut Head, setup: Setup) -> u8
     ensures { PowersUp setup.node setup.identity (answered result head.new) }
 {
     let refusal = head::refusal(setup);
@@ -41,8 +40,7 @@ pub extern "C" fn haybleater_power_up(head: &mut Head, setup: Setup) -> u8
     refusal
 }
 
-#[unsafe(no_mangle)]
-pub extern "C" fn haybleater_receive(head: &mut Head, frame: Received) -> u8
+pub fn haybleater_receive(head: &mut Head, frame: Received) -> u8
     requires { Valid head.old }
     ensures { Receives head.old frame (answered result head.new) }
 {
@@ -57,8 +55,10 @@ pub extern "C" fn haybleater_receive(head: &mut Head, frame: Received) -> u8
         hear::REPLIES => {
             head.transfer = heard.transfer;
             let left = effect::reply(head.line, heard.reply);
-            head.core.reply = left.reply;
-            head.line = left.line;
+            let reply = left.reply;
+            head.core.reply = reply;
+            let line = left.line;
+            head.line = line;
         }
         hear::SYNCS => {
             let left = sync::sync(
@@ -71,7 +71,8 @@ pub extern "C" fn haybleater_receive(head: &mut Head, frame: Received) -> u8
             );
             head.core.timers = left.timers;
             head.core.fixed = left.fixed;
-            head.line = left.line;
+            let line = left.line;
+            head.line = line;
         }
         hear::CONFIGURES => {
             head.transfer = heard.transfer;
@@ -88,8 +89,10 @@ pub extern "C" fn haybleater_receive(head: &mut Head, frame: Received) -> u8
             );
             head.core.device.settings.communication = left.communication;
             head.core.timers = left.timers;
-            head.core.reply = left.reply;
-            head.line = left.line;
+            let reply = left.reply;
+            head.core.reply = reply;
+            let line = left.line;
+            head.line = line;
         }
         hear::SCALES => {
             head.transfer = heard.transfer;
@@ -102,8 +105,10 @@ pub extern "C" fn haybleater_receive(head: &mut Head, frame: Received) -> u8
                 heard.value,
             );
             head.core.device.settings.profile = left.profile;
-            head.core.reply = left.reply;
-            head.line = left.line;
+            let reply = left.reply;
+            head.core.reply = reply;
+            let line = left.line;
+            head.line = line;
         }
         hear::ENTERS => {
             head.transfer = heard.transfer;
@@ -118,7 +123,8 @@ pub extern "C" fn haybleater_receive(head: &mut Head, frame: Received) -> u8
             );
             head.core.nmt = left.nmt;
             head.core.timers = left.timers;
-            head.line = left.line;
+            let line = left.line;
+            head.line = line;
         }
         hear::RESETS => {
             head.transfer = heard.transfer;
@@ -127,7 +133,8 @@ pub extern "C" fn haybleater_receive(head: &mut Head, frame: Received) -> u8
             head.core.nmt = left.nmt;
             head.core.announced = left.announced;
             head.core.timers = left.timers;
-            head.line = left.line;
+            let line = left.line;
+            head.line = line;
         }
         hear::SAVES => {
             head.transfer = heard.transfer;
@@ -139,15 +146,19 @@ pub extern "C" fn haybleater_receive(head: &mut Head, frame: Received) -> u8
                 heard.key,
             );
             head.core.device.saved = left.saved;
-            head.core.reply = left.reply;
-            head.line = left.line;
+            let reply = left.reply;
+            head.core.reply = reply;
+            let line = left.line;
+            head.line = line;
         }
         hear::EMPTIES => {
             head.transfer = heard.transfer;
             let left = effect::empty(head.line, heard.reply);
             head.core.device.errors = left.errors;
-            head.core.reply = left.reply;
-            head.line = left.line;
+            let reply = left.reply;
+            head.core.reply = reply;
+            let line = left.line;
+            head.line = line;
         }
         hear::ENDS => {
             head.transfer = heard.transfer;
@@ -157,8 +168,7 @@ pub extern "C" fn haybleater_receive(head: &mut Head, frame: Received) -> u8
     heard.refusal
 }
 
-#[unsafe(no_mangle)]
-pub extern "C" fn haybleater_tick(head: &mut Head)
+pub fn haybleater_tick(head: &mut Head)
     requires { Valid head.old }
     ensures { Ticks head.old head.new }
 {
@@ -187,8 +197,7 @@ pub extern "C" fn haybleater_tick(head: &mut Head)
     }
 }
 
-#[unsafe(no_mangle)]
-pub extern "C" fn haybleater_sample(head: &mut Head, raw: u32) -> u8
+pub fn haybleater_sample(head: &mut Head, raw: u32) -> u8
     requires { Valid head.old }
     ensures { Samples head.old (Raw raw) (answered result head.new) }
 {
@@ -202,12 +211,12 @@ pub extern "C" fn haybleater_sample(head: &mut Head, raw: u32) -> u8
         raw,
     );
     head.core.device.reading = left.reading;
-    head.line = left.line;
+    let line = left.line;
+    head.line = line;
     left.refusal
 }
 
-#[unsafe(no_mangle)]
-pub extern "C" fn haybleater_missing(head: &mut Head)
+pub fn haybleater_missing(head: &mut Head)
     requires { Valid head.old }
     ensures { Samples head.old Missing (answered 0 head.new) }
 {
@@ -222,11 +231,11 @@ pub extern "C" fn haybleater_missing(head: &mut Head)
     );
     head.core.device.reading = left.reading;
     head.core.device.errors = left.errors;
-    head.line = left.line;
+    let line = left.line;
+    head.line = line;
 }
 
-#[unsafe(no_mangle)]
-pub extern "C" fn haybleater_slot(head: &mut Head) -> Outgoing
+pub fn haybleater_slot(head: &mut Head) -> Outgoing
     requires { Valid head.old }
     ensures { Slots head.old (sent_as result head.new) }
 {
@@ -246,7 +255,8 @@ pub extern "C" fn haybleater_slot(head: &mut Head) -> Outgoing
                 head.core.device.reading.good,
             );
             head.core.nmt = left.nmt;
-            head.line = left.line;
+            let line = left.line;
+            head.line = line;
         }
         slot::ANNOUNCES => {
             let left = slot::announce(
@@ -256,48 +266,45 @@ pub extern "C" fn haybleater_slot(head: &mut Head) -> Outgoing
             );
             head.core.announced = left.announced;
             head.core.timers.inhibit = left.inhibit;
-            head.line = left.line;
+            let line = left.line;
+            head.line = line;
         }
         slot::SENDS => {
             let left = slot::take(head.line);
-            head.line = left.line;
+            let line = left.line;
+            head.line = line;
         }
         _ => {}
     }
     slotted.outgoing
 }
 
-#[unsafe(no_mangle)]
-pub extern "C" fn haybleater_state(head: &Head) -> u8
+pub fn haybleater_state(head: &Head) -> u8
     ensures { result ≡ state_code head.now }
 {
     question::state(*head)
 }
 
-#[unsafe(no_mangle)]
-pub extern "C" fn haybleater_good(head: &Head) -> bool
+pub fn haybleater_good(head: &Head) -> bool
     ensures { result ≡ is_good head.now }
 {
     question::good(*head)
 }
 
-#[unsafe(no_mangle)]
-pub extern "C" fn haybleater_position(head: &Head) -> Located
+pub fn haybleater_position(head: &Head) -> Located
     requires { Valid head.now }
     ensures { result ≡ position_of head.now }
 {
     question::position(*head)
 }
 
-#[unsafe(no_mangle)]
-pub extern "C" fn haybleater_goes_if_missing(head: &Head) -> bool
+pub fn haybleater_goes_if_missing(head: &Head) -> bool
     ensures { result ≡ goes_if_missing head.now }
 {
     question::goes_if_missing(*head)
 }
 
-#[unsafe(no_mangle)]
-pub extern "C" fn haybleater_waits(head: &Head) -> bool
+pub fn haybleater_waits(head: &Head) -> bool
     ensures { result ≡ any_waits head.now }
 {
     question::waits(*head)

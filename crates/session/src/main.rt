@@ -5,8 +5,12 @@
 ghost use Rattle.std.specs.Prelude.{◌≤◌, length};
 ghost use Rattle.promises.specs.Valid.{Valid};
 
-use libc::{STDIN_FILENO, STDOUT_FILENO};
+use std::io;
+use std::io::{Read, Write};
 use transcript::Session;
+
+// The most that is read at once.
+const CHUNK: usize = 4_096;
 
 // The most that 4,096 bytes of input print: 64 for each.
 const ROOM: usize = 262_144;
@@ -18,64 +22,83 @@ struct After {
 }
 
 // Reads once, prints what came of it before it waits again, and says whether to go on.
-fn turn(session: Session, out: &mut [u8]) -> After
+fn turn(rt: &HostRuntime, session: Session, out: &mut [u8]) -> After
     requires valid { Valid session.head }
     requires in_bounds { 262144 ≤ length out.old }
     ensures { Valid result.session.head }
 {
-    let mut input = io::buffer();
-    let got = libc::read(STDIN_FILENO, &mut input);
-    if got <= 0 {
-        finish(session, got < 0);
-        return After {
-            more: false,
-            session,
-        };
-    }
-    let count = io::count(got, &input);
-    let done = feeding::chunk(session, &input[..count], out);
-    let len = done.len;
-    let more = print(&out[..len]);
-    let next = done.session;
-    After {
-        more,
-        session: next,
+    let mut input = [0u8; CHUNK];
+    match rt.stdin().read(&mut input) {
+        Ok(0) => {
+            finish(rt, session);
+            After {
+                more: false,
+                session,
+            }
+        }
+        Ok(count) => {
+            let done = feeding::chunk(session, &input[..count], out);
+            let more = print(rt, &out[..done.len]);
+            After {
+                more,
+                session: done.session,
+            }
+        }
+        Err(error) => {
+            report(rt, "session: cannot read", error);
+            After {
+                more: false,
+                session,
+            }
+        }
     }
 }
 
-// The end of the input ends a last line. A read that failed is no end: it is reported, and what came of that line is dropped.
-fn finish(session: Session, read_failed: bool)
+// The end of the input ends a last line. A read that failed is no end: what came of that line is dropped.
+fn finish(rt: &HostRuntime, session: Session)
     requires { Valid session.head }
 {
-    if read_failed {
-        os::fail(b"session: cannot read");
-        return;
-    }
     let text = feeding::close(session);
     let count = lines::kept(text);
-    let bytes = text.bytes;
-    print(&bytes[..count]);
+    print(rt, &text.bytes[..count]);
 }
 
-// Answers whether all was written. What was not is reported: the program has no exit status to say it with.
-fn print(bytes: &[u8]) -> bool {
-    let written = io::write_all(STDOUT_FILENO, bytes);
-    if !written {
-        os::fail(b"session: cannot write");
+// Answers whether all was written. What was not is reported.
+fn print(rt: &HostRuntime, bytes: &[u8]) -> bool {
+    match rt.stdout().write_all(bytes) {
+        Ok(()) => true,
+        Err(error) => {
+            report(rt, "session: cannot write", error);
+            false
+        }
     }
-    written
 }
 
-// A proved loop ends, and nothing says that the input does: the turns are counted down from a number that no run uses up.
-fn main() {
+// Nothing is left to be done if standard error cannot be written either.
+fn report(rt: &HostRuntime, message: &str, error: io::Error) {
+    let Ok(text) = format!(in rt.alloc(); "{message}: {error}") else {
+        return;
+    };
+    let said = in_words(text.as_str());
+    let _ = eprintln!(rt; "{said}");
+}
+
+// The text of an error without the number that std adds.
+fn in_words(text: &str) -> &str {
+    match text.split_once(" (os error") {
+        Some((words, _)) => words,
+        None => text,
+    }
+}
+
+fn main(rt: HostRuntime) {
     let mut out = [0u8; ROOM];
     let mut session = feeding::start();
-    let mut more = true;
-    let mut turns = u64::MAX;
-    while more & (0 < turns) {
-        let after = turn(session, &mut out);
+    for _ in 0..u64::MAX {
+        let after = turn(&rt, session, &mut out);
         session = after.session;
-        more = after.more;
-        turns -= 1;
+        if !after.more {
+            break;
+        }
     }
 }

@@ -7,11 +7,7 @@ use crate::head::{self, IDENTITY, NODE};
 /// The words of the three names.
 const NAMES: usize = 25;
 /// A head has at most this many words.
-const WORDS: usize = if cfg!(feature = "padded") {
-    64 + NAMES + 80
-} else {
-    64 + NAMES
-};
+const WORDS: usize = 64 + NAMES;
 /// A head has at most this many bytes.
 pub const LARGEST: usize = WORDS * size_of::<u32>();
 /// Words of memory that are lent for a head: whole cache lines, and one word more. So of many heads side by
@@ -74,14 +70,9 @@ pub struct Outgoing {
 }
 
 // The compiled `haybleater_slot` takes the address of its answer as first argument and returns this address.
-// C returns a structure of that size in this way on x86-64, but not on other processors.
+// C returns a structure of that size in this way on x86-64.
 extern "C" {
-    #[cfg(target_arch = "x86_64")]
     fn haybleater_power_up(head: *mut u32, setup: Setup) -> u8;
-    /// The compiled `haybleater_power_up` takes the setup on the stack, as C does on x86-64 only. So
-    /// host/bench/module adds this export to the object.
-    #[cfg(not(target_arch = "x86_64"))]
-    fn haybleater_at_power_up(head: *mut u32, setup: *const Setup, refusal: *mut u8);
     fn haybleater_receive(head: *mut u32, frame: Received) -> u8;
     fn haybleater_tick(head: *mut u32);
     fn haybleater_sample(head: *mut u32, raw: u32) -> u8;
@@ -113,17 +104,8 @@ const fn given(name: reference::Name) -> Name {
 
 /// # Safety
 /// The memory is as large as a head.
-#[cfg(target_arch = "x86_64")]
 unsafe fn power_up(memory: *mut u32) {
     haybleater_power_up(memory, SETUP);
-}
-
-/// # Safety
-/// The memory is as large as a head.
-#[cfg(not(target_arch = "x86_64"))]
-unsafe fn power_up(memory: *mut u32) {
-    let mut refusal = 0;
-    haybleater_at_power_up(memory, &SETUP, &mut refusal);
 }
 
 /// The bytes of a head: up to the last word that power-up writes, whatever was in the memory before.
