@@ -5,8 +5,9 @@
 ghost use Rattle.std.specs.Prelude.{◌≤◌, length};
 ghost use Rattle.promises.specs.Valid.{Valid};
 
+use std::fmt::InlineText;
 use std::io;
-use std::io::{Read, Write};
+use std::io::{ErrorKind, Read, Write};
 use transcript::Session;
 
 // The most that is read at once.
@@ -14,6 +15,9 @@ const CHUNK: usize = 4_096;
 
 // The most that 4,096 bytes of input print: 64 for each.
 const ROOM: usize = 262_144;
+
+// More than the text of an error takes.
+const LONGEST_ERROR: usize = 128;
 
 #[derive(Clone, Copy)]
 struct After {
@@ -74,13 +78,14 @@ fn print(rt: &HostRuntime, bytes: &[u8]) -> bool {
     }
 }
 
-// Nothing is left to be done if standard error cannot be written either.
+// What no reader takes is no failure to speak of. Nothing is left to be done if standard error cannot be written either.
 fn report(rt: &HostRuntime, message: &str, error: io::Error) {
-    let Ok(text) = format!(in rt.alloc(); "{message}: {error}") else {
+    if matches!(error.kind(), ErrorKind::BrokenPipe) {
         return;
-    };
+    }
+    let text = InlineText::<LONGEST_ERROR>::of(error);
     let said = in_words(text.as_str());
-    let _ = eprintln!(rt; "{said}");
+    let _ = eprintln!(rt; "{message}: {said}");
 }
 
 // The text of an error without the number that std adds.

@@ -1,4 +1,4 @@
--- `is_live_law` meets its contract.
+-- `is_live` meets its contract.
 use Rattle.states.proofs.is_live.Goals as goal
 
 pub returns : goal.returns
