@@ -15,6 +15,8 @@ use lent::Located;
 use parts::{Head, Setup};
 use steps::slot::Outgoing;
 
+mod outcome;
+
 // The memory may hold anything before: it is not read. A refused power-up leaves a head too, of node 1 with identity numbers 0 and names "?".
 #[unsafe(no_mangle)]
 pub extern "C" fn haybleater_power_up(head: &mut Head, setup: Setup) -> u8
