@@ -5,8 +5,7 @@ use Rattle.dictionary.specs.Reads.{shown}
 use Rattle.dictionary.specs.Writes.{put}
 use Rattle.sdo.specs.Service.{due}
 use Rattle.sdo.specs.Upload.{due_in}
-use Rattle.promises.specs.States.{operational, stopped}
-use Rattle.promises.specs.Acts.{reset, settled_to, act}
+use Rattle.promises.specs.Acts.{settled_to, act}
 use Rattle.runs.specs.Codes.{CodesMet}
 
 pub codes_met : CodesMet

@@ -14,7 +14,7 @@ use Rattle.entries.specs.Settings.{pdo, factory}
 use Rattle.entries.specs.Table.{table, lookup}
 use Rattle.dictionary.specs.declared.read.Shown.TheVariants.{Number}
 use Rattle.dictionary.specs.Reads.{shown}
-use Rattle.dictionary.specs.Writes.{written, put}
+use Rattle.dictionary.specs.Writes.{put}
 use Rattle.dictionary.specs.Worked.{save, load}
 use Rattle.sdo.specs.Service.{confirmation, due}
 use Rattle.sdo.specs.Upload.{due_in}

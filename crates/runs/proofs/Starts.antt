@@ -17,7 +17,6 @@ use Rattle.promises.specs.Histories.{after}
 use Rattle.promises.specs.Resets.{Saves}
 use Rattle.promises.specs.Node1.{node1, to_node1}
 use Rattle.promises.specs.Worked.{missing}
-use Rattle.promises.proofs.Altered.{heard}
 use Rattle.runs.specs.Starts.{StartsMet}
 
 -- the entry that is written

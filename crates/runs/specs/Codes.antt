@@ -1,8 +1,8 @@
 -- The states of node 1, and what its heartbeat and its position frames then say. These runs meet
 -- the conditions of `Codes` of crate promises. 01, chapters "States" and "The waiting line".
-use Rattle.std.specs.Prelude.{ℕ, ◌+◌, ◌≡◌, true, false, List, [], ◌∷◌, ◌++◌}
+use Rattle.std.specs.Prelude.{ℕ, ◌≡◌, true, false, List, [], ◌∷◌, ◌++◌}
 use Rattle.sdo.specs.Worked.{bytes}
-use Rattle.promises.specs.States.{operational, stopped, is_initialising, PdoNumber, one, two}
+use Rattle.promises.specs.States.{is_initialising, PdoNumber, one, two}
 use Rattle.promises.specs.WaitingLine.{heartbeat, tpdo}
 use Rattle.promises.specs.Calls.{Call, tick, slot}
 use Rattle.promises.specs.Histories.{after}

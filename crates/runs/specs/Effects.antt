@@ -1,7 +1,6 @@
 -- A head, made by calls from power-up, that takes a write to every rw entry, and requests that it aborts and answers.
 -- It meets the conditions of `ServedRightly` of crate promises. 01, chapters "Entries" and "Service requests".
-use Rattle.std.specs.Prelude.{ℕ, ◌+◌, ◌/◌, ◌%◌, ◌≡◌, true, List, ◌∷◌, ◌++◌, map}
-use Rattle.std.proofs.Math.Option.{none}
+use Rattle.std.specs.Prelude.{ℕ, ◌/◌, ◌%◌, ◌≡◌, true, List, ◌∷◌, ◌++◌, map}
 use Rattle.can.specs.Number.{low_first}
 use Rattle.can.specs.declared.Received.{Received}
 use Rattle.entries.specs.Table.{table}

@@ -24,7 +24,7 @@ use Rattle.parts.specs.declared.Head.{Head}
 use Rattle.parts.specs.declared.Sent.{Sent}
 use Rattle.promises.specs.States.{one, two, is_initialising, node, communication, good}
 use Rattle.promises.specs.WaitingLine.{Kind, emergency, sdo_reply, heartbeat, tpdo, number, is_alerting, may_stay, frame}
-use Rattle.promises.specs.Acts.{Act, boot, idle, send, acted, announcing, booted, moments_of}
+use Rattle.promises.specs.Acts.{Act, boot, send, acted, announcing, booted, moments_of}
 use Rattle.promises.specs.Acts.{emergency_only, goes, comes, settled_to, act, frame_by}
 use Rattle.promises.specs.Calls.{slot, sent_by, is_frame, frame_in, sent_with}
 use Rattle.promises.specs.Valid.{Valid}

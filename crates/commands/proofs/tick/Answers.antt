@@ -1,4 +1,3 @@
-use Prim.Native.Nat.{◌-◌}
 use Rattle.commands.proofs.Ticks.{tick_start, tick_more, tick_all}
 use Rattle.commands.proofs.tick.Goals as goal
 

@@ -1,4 +1,3 @@
-use Prim.Native.Nat.{◌-◌}
 use Rattle.feeding.proofs.Feeding.{feed_start, feed_room, feed_more, feed_all, feed_out}
 use native.Mathlib.Omega.{arith}
 use borrow.Author.Rules.{rules}

@@ -1,4 +1,3 @@
-use Prim.Native.Nat.{◌-◌}
 use Rattle.feeding.proofs.Copying.{copy_start, copy_more, copy_all}
 use borrow.Author.Rules.{rules}
 use Rattle.feeding.proofs.put.Goals as goal

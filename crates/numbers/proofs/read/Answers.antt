@@ -1,5 +1,4 @@
 -- `numbers::read` meets its contract, by the loop laws of Reading. Assumes nothing.
-use Prim.Native.Nat.{◌-◌}
 use Rattle.numbers.proofs.Reading.{read_start, read_fits, read_room, read_space, read_end, read_bad, read_many, read_more}
 use mathlib.Core.Path.{◌∙◌}
 use Rattle.numbers.proofs.read.Goals as goal

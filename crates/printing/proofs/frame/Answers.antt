@@ -1,5 +1,4 @@
 -- `printing::frame` meets its contract, by the loop laws of Writing. Assumes nothing.
-use Prim.Native.Nat.{◌-◌}
 use Rattle.printing.proofs.Printing.{write_start, write_pair, write_end}
 use mathlib.Core.Path.{◌∙◌}
 use borrow.Author.Rules.{rules}

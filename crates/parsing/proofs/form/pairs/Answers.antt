@@ -1,5 +1,4 @@
 -- `form::pairs` meets its contract, by the loop laws of Pairs. Assumes nothing.
-use Prim.Native.Nat.{◌-◌}
 use Rattle.parsing.proofs.Pairs.{pairs_start, pairs_more, pairs_good}
 use Rattle.parsing.proofs.Pairs.{pairs_none, pairs_not, pairs_short, pair_below, pairs_many}
 use mathlib.Core.Path.{◌∙◌}
