@@ -1,4 +1,3 @@
-pub mod Text
 pub mod Segments
 pub mod Parts
 pub mod Laws

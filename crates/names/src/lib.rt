@@ -1,9 +1,9 @@
 //! The names of a head, and the segments in which an SDO client reads one: CiA 301, "SDO upload segment".
 #![tactic(auto)]
 
-ghost use Rattle.std.specs.Prelude.{◌≡◌, [], ◌∷◌, length};
-ghost use Rattle.names.specs.Name.{is_name, named as name_of, unknown as unknownName};
-ghost use Rattle.names.specs.Segment.{left_of, command_of, byte_at, segment_of, toggle_of};
+ghost use Rattle.std.specs.Prelude.{◌≡◌, ◌*◌, [], ◌∷◌, drop, length};
+ghost use Rattle.names.specs.Name.{is_name, named as name_of, text, unknown as unknownName};
+ghost use Rattle.names.specs.Segment.{left_of, command_of, segment_of, toggle_of};
 ghost use Rattle.names.specs.Laws.{Laws};
 ghost use Rattle.names.specs.Transfer.{runs as isRunning, number_of, starting, following, low_byte, naming};
 
@@ -40,13 +40,13 @@ const HARDWARE_VERSION: u16 = 0x1009;
 
 const SOFTWARE_VERSION: u16 = 0x100A;
 
-const SEGMENT: u32 = 7;
+const SEGMENT: usize = 7;
 
 pub fn is_name(name: Name) -> bool
     ensures value { result ≡ is_name name }
     ensures bytes_len { length name.bytes ≡ 32 }
 {
-    (1 <= name.length) & (name.length <= LONGEST)
+    (1..=LONGEST).contains(&name.length)
 }
 
 // "?", the name of a head whose power-up was refused.
@@ -61,10 +61,7 @@ pub fn short(a: u8, b: u8, c: u8, d: u8, length: u8) -> Name
     ensures { result ≡ name_of (a ∷ b ∷ c ∷ d ∷ []) length }
 {
     let mut bytes = [0u8; 32];
-    bytes[0] = a;
-    bytes[1] = b;
-    bytes[2] = c;
-    bytes[3] = d;
+    bytes[..4].copy_from_slice(&[a, b, c, d]);
     Name { bytes, length }
 }
 
@@ -87,16 +84,12 @@ pub fn started(index: u16) -> Transfer
 fn number(index: u16) -> u8
     ensures { result ≡ number_of index }
 {
-    if index == DEVICE_NAME {
-        return 1;
+    match index {
+        DEVICE_NAME => 1,
+        HARDWARE_VERSION => 2,
+        SOFTWARE_VERSION => 3,
+        _ => 0,
     }
-    if index == HARDWARE_VERSION {
-        return 2;
-    }
-    if index == SOFTWARE_VERSION {
-        return 3;
-    }
-    0
 }
 
 // The toggle of the segment that is due.
@@ -116,30 +109,23 @@ pub fn named(transfer: Transfer) -> Bytes
 fn low_byte(name: u8) -> u8
     ensures { result ≡ low_byte name }
 {
-    if name == 1 {
-        return 0x08;
+    match name {
+        1 => 0x08,
+        2 => 0x09,
+        _ => 0x0A,
     }
-    if name == 2 {
-        return 0x09;
-    }
-    0x0A
 }
 
 // The reply to the segment request that is due.
 pub fn segment(name: Name, segments: u8) -> Bytes
     ensures { result ≡ segment_of name segments }
 {
-    let at = segments as usize * 7;
-    [
-        command(name.length, segments),
-        byte_at(name, at),
-        byte_at(name, at + 1),
-        byte_at(name, at + 2),
-        byte_at(name, at + 3),
-        byte_at(name, at + 4),
-        byte_at(name, at + 5),
-        byte_at(name, at + 6),
-    ]
+    let rest = rest(&name, segments);
+    let carried = rest.len().min(SEGMENT);
+    let mut reply = [0u8; 8];
+    reply[0] = command(name.length, segments);
+    reply[1..=carried].copy_from_slice(&rest[..carried]);
+    reply
 }
 
 // The transfer after that reply: the last segment ends it.
@@ -156,14 +142,10 @@ pub fn next(transfer: Transfer, length: u8) -> Transfer
 }
 
 // How many bytes of the name these segments left.
-fn left(length: u8, segments: u8) -> u32
+fn left(length: u8, segments: u8) -> usize
     ensures { result ≡ left_of length segments }
 {
-    let sent = segments as u32 * SEGMENT;
-    if sent < length as u32 {
-        return length as u32 - sent;
-    }
-    0
+    (length as usize).saturating_sub(segments as usize * SEGMENT)
 }
 
 // Bit 4 is the toggle, bits 3..1 count the unused bytes, bit 0 is set in the last segment.
@@ -178,18 +160,21 @@ fn command(length: u8, segments: u8) -> u8
     toggle
 }
 
-// 0 past the end of the name.
-fn byte_at(name: Name, place: usize) -> u8
-    ensures { result ≡ byte_at name place }
+// The bytes of the name that these segments left.
+fn rest(name: &Name, segments: u8) -> &[u8]
+    ensures { result.now ≡ drop (7 * segments) (text name.now) }
 {
-    let bytes = name.bytes;
-    if name.length as usize <= place {
-        return 0;
-    }
-    if bytes.len() <= place {
-        return 0;
-    }
-    bytes[place]
+    let sent = segments as usize * SEGMENT;
+    text(name).get(sent..).unwrap_or(&[])
+}
+
+// The bytes of the name.
+fn text(name: &Name) -> &[u8]
+    ensures { result.now ≡ text name.now }
+{
+    name.bytes
+        .get(..name.length as usize)
+        .unwrap_or(&name.bytes)
 }
 
 // This function does nothing. It ensures the statements of the crate, so the crate is proved only if they are.
