@@ -1,4 +1,3 @@
-pub mod Loops
 pub mod ByPlace
 pub mod After
 pub mod Room

@@ -2,7 +2,8 @@
 
 #![tactic(auto)]
 
-ghost use Rattle.std.specs.Prelude.{◌≡◌, ◌||◌, cond, [], ◌∷◌, eqb, take, ℕ};
+ghost use Rattle.std.specs.Prelude.{◌≡◌, ◌||◌, cond, [], ◌∷◌, eqb, ℕ};
+ghost use Rattle.std.specs.List.{position};
 ghost use Rattle.cases.specs.Padded.{pad};
 ghost use Rattle.waiting.specs.Line.{places, order, has, first as first_of};
 ghost use Rattle.waiting.specs.Places.{join_in, withdraw_in, taken_in, waiting, Holds};
@@ -39,38 +40,24 @@ pub fn none() -> Line
 pub fn waits(line: Line, kind: u8) -> bool
     ensures { result ≡ has kind line }
 {
-    for i in 0..PLACES {
-        if line[i] == kind {
-            return true;
-        }
-    }
-    false
+    line.contains(&kind)
 }
 
 pub fn join(line: Line, kind: u8) -> Line
     ensures { result ≡ join_in line kind }
 {
-    let one = line[0];
-    let two = line[1];
-    let three = line[2];
-    let four = line[3];
-    let five = line[4];
-    if takes(one, kind) {
-        return [kind, two, three, four, five];
+    let mut joined = line;
+    if let Some(place) = place_for(&line, kind) {
+        joined[place] = kind;
     }
-    if takes(two, kind) {
-        return [one, kind, three, four, five];
-    }
-    if takes(three, kind) {
-        return [one, two, kind, four, five];
-    }
-    if takes(four, kind) {
-        return [one, two, three, kind, five];
-    }
-    if takes(five, kind) {
-        return [one, two, three, four, kind];
-    }
-    line
+    joined
+}
+
+// The place that a joining kind takes.
+fn place_for(line: &Line, kind: u8) -> Option<usize>
+    ensures { result ≡ position (λ x. eqb x 0 || eqb x kind) line.now }
+{
+    line.iter().position(|&place| takes(place, kind))
 }
 
 // An empty place takes a kind; one that waits already keeps its place.
@@ -83,22 +70,13 @@ fn takes(place: u8, kind: u8) -> bool
 pub fn withdraw(line: Line, kind: u8) -> Line
     ensures { result ≡ withdraw_in line kind }
 {
-    let left = none();
-    let left = behind(line[4], left, kind);
-    let left = behind(line[3], left, kind);
-    let left = behind(line[2], left, kind);
-    let left = behind(line[1], left, kind);
-    behind(line[0], left, kind)
-}
-
-// The places `others` with `one` in front, unless `one` is the kind that goes.
-fn behind(one: u8, others: Line, kind: u8) -> Line
-    ensures { result ≡ cond (eqb one kind) others (one ∷ take 4 others) }
-{
-    if one == kind {
-        return others;
+    let mut left = none();
+    for &place in line.iter().rev() {
+        if place != kind {
+            left = [place, left[0], left[1], left[2], left[3]];
+        }
     }
-    [one, others[0], others[1], others[2], others[3]]
+    left
 }
 
 // The kind that a slot sends, 0 if none waits.
