@@ -1,18 +1,16 @@
--- A join and a withdrawal, place by place. Assumes nothing.
-use Prim.Native.Nat.{ℕ, zero, suc, ◌<◌, ◌≤◌}
+-- A withdrawal, place by place. Assumes nothing.
+use Prim.Native.Nat.{ℕ, zero, suc}
 use native.Mathlib.Omega.{arith}
 use mathlib.Core.Path.{◌≡◌, refl, sym, ap}
-use mathlib.Core.Bool.{Bool, true, false, ◌||◌, cond}
+use mathlib.Core.Bool.{cond}
 use mathlib.Core.List.{List, [], ◌∷◌, ◌++◌}
-use lib.Dec.{eqb, ltb}
-use lib.ListN.{length, take, set, get_or}
-use borrow.Author.Tests.{eqb-true, eq-eqb, ne_eqb, ltb-false}
-use Rattle.std.specs.List.{position, position_or_len}
-use Rattle.std.specs.Prelude.{Some}
+use lib.Dec.{eqb}
+use lib.ListN.{length, take, get_or}
+use borrow.Author.Tests.{eq-eqb, ne_eqb}
 use Rattle.cases.specs.Padded.{pad}
 use Rattle.cases.proofs.Cases.{test}
 use Rattle.waiting.specs.Line.{places, withdraw}
-use Rattle.waiting.specs.Places.{join_in, withdraw_in}
+use Rattle.waiting.specs.Places.{withdraw_in}
 
 -- the places, one by one
 abbrev five : List ℕ → List ℕ
@@ -26,50 +24,6 @@ five_places (a ∷ b ∷ d ∷ []) e = absurd (omega (arith, e))
 five_places (a ∷ b ∷ d ∷ f ∷ []) e = absurd (omega (arith, e))
 five_places (a ∷ b ∷ d ∷ f ∷ g ∷ []) e = refl
 five_places (a ∷ b ∷ d ∷ f ∷ g ∷ i ∷ l) e = absurd (omega (arith, e))
-
--- an empty place takes a kind, and so does the kind's own place
-abbrev pub takes : ℕ → ℕ → Bool
-takes k x = eqb x 0 || eqb x k
-
--- a join with one test for each place
-abbrev pub joins_at : List ℕ → ℕ → List ℕ
-joins_at [] k = []
-joins_at (x ∷ xs) k = cond (takes k x) (k ∷ xs) (x ∷ joins_at xs k)
-
-joins_at_law : (l : List ℕ) (k : ℕ) → joins_at l k ≡ join_in l k
-joins_at_law [] k = refl
-joins_at_law (x ∷ xs) k =
-    test (eqb x 0)
-    (λ z. rw z)
-    (λ z.
-    test (eqb x k)
-    (λ e. rw (z, e) (ap {B = List ℕ} (λ y. y ∷ xs) (sym (eqb-true x k e))))
-    (λ e. rw (z, e) (ap {B = List ℕ} (λ r. x ∷ r) (joins_at_law xs k))))
-
--- the first place that takes the kind
-pub joins_here : (k : ℕ) (xs : List ℕ) (p : ℕ) → p < length xs → takes k (get_or xs p 0) ≡ true
-    → ((i : ℕ) → i < p → takes k (get_or xs i 0) ≡ false) → set xs p k ≡ join_in xs k
-joins_here k [] p h t f = absurd (omega (arith, h))
-joins_here k (x ∷ xs) zero h t f = rw (← joins_at_law (x ∷ xs) k, t)
-joins_here k (x ∷ xs) (suc p) h t f =
-    rw (← joins_at_law (x ∷ xs) k, f 0 (omega arith), joins_at_law xs k)
-    (ap {B = List ℕ} (λ r. x ∷ r) (joins_here k xs p (omega (arith, h)) t (λ i l. f (suc i) (omega (arith, l)))))
-
--- no place takes it
-passed : (k : ℕ) (xs : List ℕ) → length xs ≤ position_or_len (takes k) xs → xs ≡ join_in xs k
-passed k [] h = refl
-passed k (x ∷ xs) h =
-    test (takes k x)
-    (λ e. absurd (omega (arith, rw e at h)))
-    (λ e.
-    rw (← joins_at_law (x ∷ xs) k, e, joins_at_law xs k)
-    (ap {B = List ℕ} (λ r. x ∷ r) (passed k xs (omega (arith, rw e at h)))))
-
-pub joins_nowhere : (k : ℕ) (xs : List ℕ) → ((p : ℕ) → position (takes k) xs ≡ Some p → ⊥) → xs ≡ join_in xs k
-joins_nowhere k xs none =
-    test (ltb (position_or_len (takes k) xs) (length xs))
-    (λ e. absurd (none (position_or_len (takes k) xs) (rw e)))
-    (λ e. passed k xs (ltb-false _ _ e))
 
 take_pad : (n : ℕ) (l : List ℕ) → take n (pad (suc n) l) ≡ pad n l
 take_pad zero l = refl

@@ -1,3 +1,4 @@
+pub mod Loops
 pub mod ByPlace
 pub mod After
 pub mod Room

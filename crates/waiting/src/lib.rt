@@ -3,7 +3,6 @@
 #![tactic(auto)]
 
 ghost use Rattle.std.specs.Prelude.{◌≡◌, ◌||◌, cond, [], ◌∷◌, eqb, ℕ};
-ghost use Rattle.std.specs.List.{position};
 ghost use Rattle.cases.specs.Padded.{pad};
 ghost use Rattle.waiting.specs.Line.{places, order, has, first as first_of};
 ghost use Rattle.waiting.specs.Places.{join_in, withdraw_in, taken_in, waiting, Holds};
@@ -40,24 +39,35 @@ pub fn none() -> Line
 pub fn waits(line: Line, kind: u8) -> bool
     ensures { result ≡ has kind line }
 {
-    line.contains(&kind)
+    for place in line {
+        if place == kind {
+            return true;
+        }
+    }
+    false
 }
 
+// Place by place: a loop that writes the place takes 1.5 ns more, and reads of 6200h and 1008h would miss their bar of speed.
 pub fn join(line: Line, kind: u8) -> Line
     ensures { result ≡ join_in line kind }
 {
-    let mut joined = line;
-    if let Some(place) = place_for(&line, kind) {
-        joined[place] = kind;
+    let [one, two, three, four, five] = line;
+    if takes(one, kind) {
+        return [kind, two, three, four, five];
     }
-    joined
-}
-
-// The place that a joining kind takes.
-fn place_for(line: &Line, kind: u8) -> Option<usize>
-    ensures { result ≡ position (λ x. eqb x 0 || eqb x kind) line.now }
-{
-    line.iter().position(|&place| takes(place, kind))
+    if takes(two, kind) {
+        return [one, kind, three, four, five];
+    }
+    if takes(three, kind) {
+        return [one, two, kind, four, five];
+    }
+    if takes(four, kind) {
+        return [one, two, three, kind, five];
+    }
+    if takes(five, kind) {
+        return [one, two, three, four, kind];
+    }
+    line
 }
 
 // An empty place takes a kind; one that waits already keeps its place.
