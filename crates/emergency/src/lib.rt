@@ -57,15 +57,12 @@ pub fn inhibit_ticks(inhibit: u32) -> u32
     if inhibit == 0 {
         return 0;
     }
-    (inhibit + (UNITS_A_TICK - 1)) / UNITS_A_TICK + 1
+    inhibit.div_ceil(UNITS_A_TICK) + 1
 }
 
 // The ticks of the inhibit time that are left after one more.
 pub fn ticked(inhibit_ticks: u32) -> u32
     ensures { result ≡ inhibit_ticks - 1 }
 {
-    if inhibit_ticks == 0 {
-        return 0;
-    }
-    inhibit_ticks - 1
+    inhibit_ticks.saturating_sub(1)
 }

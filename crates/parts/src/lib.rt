@@ -9,7 +9,7 @@ use waiting::Line;
 
 // A state, named with its heartbeat code.
 #[repr(C)]
-#[derive(Clone, Copy)]
+#[derive(Clone, Copy, PartialEq, Eq)]
 pub struct Nmt {
     pub code: u8,
 }

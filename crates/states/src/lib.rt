@@ -10,24 +10,24 @@ use parts::Nmt;
 pub fn is_initialising(state: Nmt) -> bool
     ensures { result ≡ eqb state.code initialising_code }
 {
-    same(state, Nmt::INITIALISING)
+    state == Nmt::INITIALISING
 }
 
 pub fn is_operational(state: Nmt) -> bool
     ensures { result ≡ eqb state.code (code CommandedState.operational) }
 {
-    same(state, Nmt::OPERATIONAL)
+    state == Nmt::OPERATIONAL
 }
 
 // Pre-operational or Operational.
 pub fn is_live(state: Nmt) -> bool
     ensures { result ≡ live state }
 {
-    same(state, Nmt::PRE_OPERATIONAL) | same(state, Nmt::OPERATIONAL)
+    (state == Nmt::PRE_OPERATIONAL) | (state == Nmt::OPERATIONAL)
 }
 
 pub fn same(a: Nmt, b: Nmt) -> bool
     ensures { result ≡ eqb a.code b.code }
 {
-    a.code == b.code
+    a == b
 }

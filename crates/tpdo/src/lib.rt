@@ -28,7 +28,7 @@ const LENGTH: u8 = 4;
 pub fn is_synchronous(pdo: Pdo) -> bool
     ensures { result ≡ synchronous pdo }
 {
-    (1 <= pdo.transmission) & (pdo.transmission <= MOST_SYNCS)
+    (1..=MOST_SYNCS).contains(&pdo.transmission)
 }
 
 pub fn may_join(state: Nmt, identifier: u32, good: bool) -> bool

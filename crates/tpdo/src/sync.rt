@@ -1,5 +1,5 @@
 //! What a received SYNC changes.
-ghost use Rattle.std.specs.Prelude.{◌≡◌, cond};
+ghost use Rattle.std.specs.Prelude.{◌≡◌};
 ghost use Rattle.position.specs.Profile.{ValidProfile};
 ghost use Rattle.tpdo.specs.Sync.{synced_by, fixed_anew};
 
@@ -63,13 +63,7 @@ fn anew(first: bool, second: bool, profile: Profile, raw: u32, fixed: Fixed) -> 
     }
     let position = position::position_of(profile, raw);
     Fixed {
-        pdo1: picked(first, position, fixed.pdo1),
-        pdo2: picked(second, position, fixed.pdo2),
+        pdo1: if first { position } else { fixed.pdo1 },
+        pdo2: if second { position } else { fixed.pdo2 },
     }
-}
-
-fn picked(anew: bool, position: u32, before: u32) -> u32
-    ensures { result ≡ cond anew position before }
-{
-    if anew { position } else { before }
 }
