@@ -128,7 +128,7 @@ fn scaled(head: Head, heard: Heard) -> Head
         heard.key,
         heard.value,
     );
-    let profile = left.profile;
+    let profile = left.part;
     let reply = left.reply;
     let line = left.line;
     let mut settings = head.core.device.settings;
@@ -209,7 +209,7 @@ fn saved(head: Head, heard: Heard) -> Head
     let settings = head.core.device.settings;
     let waiting = head.line;
     let left = effect::save(head.core.device.node, settings, waiting, bytes, heard.key);
-    let saved = left.saved;
+    let saved = left.part;
     let reply = left.reply;
     let line = left.line;
     let mut device = head.core.device;
@@ -235,7 +235,7 @@ fn emptied(head: Head, heard: Heard) -> Head
     let line = left.line;
     let transfer = head.transfer;
     let mut core = head.core;
-    core.device.errors = left.errors;
+    core.device.errors = left.part;
     core.reply = reply;
     Head {
         line,

@@ -104,7 +104,7 @@ pub fn haybleater_receive(head: &mut Head, frame: Received) -> u8
                 heard.key,
                 heard.value,
             );
-            head.core.device.settings.profile = left.profile;
+            head.core.device.settings.profile = left.part;
             let reply = left.reply;
             head.core.reply = reply;
             let line = left.line;
@@ -145,7 +145,7 @@ pub fn haybleater_receive(head: &mut Head, frame: Received) -> u8
                 heard.reply,
                 heard.key,
             );
-            head.core.device.saved = left.saved;
+            head.core.device.saved = left.part;
             let reply = left.reply;
             head.core.reply = reply;
             let line = left.line;
@@ -154,7 +154,7 @@ pub fn haybleater_receive(head: &mut Head, frame: Received) -> u8
         hear::EMPTIES => {
             head.transfer = heard.transfer;
             let left = effect::empty(head.line, heard.reply);
-            head.core.device.errors = left.errors;
+            head.core.device.errors = left.part;
             let reply = left.reply;
             head.core.reply = reply;
             let line = left.line;

@@ -91,7 +91,7 @@ module _ (h : Head) (v : Valid h) (live : is_live h.core ≡ true) (b : List ℕ
 
   pub empties : (k x : ℕ) → eqb k error_count_key ≡ true
       → let r = emptied_by h.line b in
-      with_line (with_reply (with_errors h r.errors) r.reply) r.line ≡ act false h (serve (writing b k x))
+      with_line (with_reply (with_errors h r.part) r.reply) r.line ≡ act false h (serve (writing b k x))
   empties k x e =
       rw (eqb-true k error_count_key e)
       (alters_else error_count_key x (with_errors h 0).core.device (emptied x) refl refl (stands error_count_key refl refl refl))
@@ -106,7 +106,7 @@ module _ (h : Head) (v : Valid h) (live : is_live h.core ≡ true) (b : List ℕ
 
   pub saves : (k x : ℕ) → (eqb k save_key || eqb k load_key) ≡ true
       → let r = saved_by c.device.node c.device.settings h.line b k in
-      with_line (with_reply (with_saved h r.saved) r.reply) r.line ≡ act false h (serve (writing b k x))
+      with_line (with_reply (with_saved h r.part) r.reply) r.line ≡ act false h (serve (writing b k x))
   saves k x e =
       either (eqb k save_key) (eqb k load_key) e
       (λ s.
@@ -148,7 +148,7 @@ module _ (h : Head) (v : Valid h) (live : is_live h.core ≡ true) (b : List ℕ
 
       pub scales :
           let r = scaled_by c.device.settings.profile c.device.reading.raw h.line b k x in
-          with_line (with_reply (with_profile h r.profile) r.reply) r.line ≡ act false h (serve (writing b k x))
+          with_line (with_reply (with_profile h r.part) r.reply) r.line ≡ act false h (serve (writing b k x))
       scales =
           let timers = stands k (other 0x1017_00 (omega arith)) (other 0x1800_05 (omega arith)) (other 0x1801_05 (omega arith)) in
           alters_else k x scaled scaled_so refl refl timers

@@ -18,9 +18,7 @@ use Rattle.promises.specs.States.{pdo}
 use Rattle.promises.specs.WaitingLine.{Kind, emergency, sdo_reply, heartbeat, tpdo, those, may_alert, may_beat, may_keep}
 use Rattle.promises.specs.Timers.{timers_written}
 use Rattle.server.specs.declared.effect.Replied.{Replied}
-use Rattle.server.specs.declared.effect.Emptied.{Emptied}
-use Rattle.server.specs.declared.effect.Saved.{Saved}
-use Rattle.server.specs.declared.effect.Scaled.{Scaled}
+use Rattle.server.specs.declared.effect.Written.{Written}
 use Rattle.server.specs.declared.effect.Configured.{Configured}
 
 abbrev pub reply_joins : List ℕ → List ℕ
@@ -29,17 +27,21 @@ reply_joins l = join_in l line.sdo_reply
 abbrev pub replied_by : List ℕ → List ℕ → Replied
 replied_by l reply = record { reply = reply; line = reply_joins l }
 
-abbrev pub emptied_by : List ℕ → List ℕ → Emptied
-emptied_by l reply = record { errors = 0; reply = reply; line = reply_joins l }
+-- a part as a write leaves it, while its reply waits
+abbrev pub written_by : {T : Type 0} → T → List ℕ → List ℕ → Written T
+written_by part l reply = record { part = part; reply = reply; line = reply_joins l }
+
+abbrev pub emptied_by : List ℕ → List ℕ → Written ℕ
+emptied_by l reply = written_by 0 l reply
 
 abbrev pub kept_by : ℕ → Settings → ℕ → Settings
 kept_by node settings k = cond (eqb k save_key) settings (factory node)
 
-abbrev pub saved_by : ℕ → Settings → List ℕ → List ℕ → ℕ → Saved
-saved_by node settings l reply k = record { saved = kept_by node settings k; reply = reply; line = reply_joins l }
+abbrev pub saved_by : ℕ → Settings → List ℕ → List ℕ → ℕ → Written Settings
+saved_by node settings l reply k = written_by (kept_by node settings k) l reply
 
-abbrev pub scaled_by : Profile → ℕ → List ℕ → List ℕ → ℕ → ℕ → Scaled
-scaled_by p raw l reply k v = record { profile = profile_after p raw k v; reply = reply; line = reply_joins l }
+abbrev pub scaled_by : Profile → ℕ → List ℕ → List ℕ → ℕ → ℕ → Written Profile
+scaled_by p raw l reply k v = written_by (profile_after p raw k v) l reply
 
 -- who may not wait with these settings; a request is served where its reply may
 abbrev pub leaves_at : Nmt → Communication → ℕ → Bool → Bool → Kind → Bool

@@ -3,7 +3,7 @@ ghost use Rattle.std.specs.Prelude.{◌≡◌};
 ghost use Rattle.position.specs.Profile.{ValidProfile};
 ghost use Rattle.dictionary.specs.Writes.{Fits};
 ghost use Rattle.promises.specs.Timers.{timers_written};
-ghost use Rattle.server.specs.Effects.{replied_by, emptied_by, kept_by, saved_by, scaled_by, rewritten_by, configured_by};
+ghost use Rattle.server.specs.Effects.{replied_by, written_by, emptied_by, kept_by, saved_by, scaled_by, rewritten_by, configured_by};
 
 use can::Bytes;
 use entries::table::{HEARTBEAT, SAVE, TPDO1_EVENT, TPDO2_EVENT};
@@ -28,38 +28,36 @@ pub fn reply(line: Line, reply: Bytes) -> Replied
     }
 }
 
+// A part of the head as a write leaves it; its reply waits.
 #[derive(Clone, Copy)]
-pub struct Emptied {
-    pub errors: u32,
+pub struct Written<T> {
+    pub part: T,
     pub reply: Bytes,
     pub line: Line,
 }
 
-pub fn empty(line: Line, reply: Bytes) -> Emptied
+fn replying<T: Copy>(part: T, line: Line, reply: Bytes) -> Written<T>
+    ensures { result ≡ written_by part line reply }
+{
+    Written {
+        part,
+        reply,
+        line: waiting::join(line, SDO_REPLY),
+    }
+}
+
+// The count of the error list.
+pub fn empty(line: Line, reply: Bytes) -> Written<u32>
     ensures { result ≡ emptied_by line reply }
 {
-    Emptied {
-        errors: 0,
-        reply,
-        line: waiting::join(line, SDO_REPLY),
-    }
+    replying(0, line, reply)
 }
 
-#[derive(Clone, Copy)]
-pub struct Saved {
-    pub saved: Settings,
-    pub reply: Bytes,
-    pub line: Line,
-}
-
-pub fn save(node: u8, settings: Settings, line: Line, reply: Bytes, key: u32) -> Saved
+// The saved set.
+pub fn save(node: u8, settings: Settings, line: Line, reply: Bytes, key: u32) -> Written<Settings>
     ensures { result ≡ saved_by node settings line reply key }
 {
-    Saved {
-        saved: kept(node, settings, key),
-        reply,
-        line: waiting::join(line, SDO_REPLY),
-    }
+    replying(kept(node, settings, key), line, reply)
 }
 
 // "save" copies the settings to the saved set, "load" makes it factory.
@@ -72,24 +70,21 @@ fn kept(node: u8, settings: Settings, key: u32) -> Settings
     Settings::factory(node)
 }
 
-#[derive(Clone, Copy)]
-pub struct Scaled {
-    pub profile: Profile,
-    pub reply: Bytes,
-    pub line: Line,
-}
-
-pub fn scale(profile: Profile, raw: u32, line: Line, reply: Bytes, key: u32, value: u32) -> Scaled
+pub fn scale(
+    profile: Profile,
+    raw: u32,
+    line: Line,
+    reply: Bytes,
+    key: u32,
+    value: u32,
+) -> Written<Profile>
     requires { (ValidProfile profile) × (Fits profile key value) }
     ensures { result ≡ scaled_by profile raw line reply key value }
 {
-    Scaled {
-        profile: writes::profile_after(profile, raw, key, value),
-        reply,
-        line: waiting::join(line, SDO_REPLY),
-    }
+    replying(writes::profile_after(profile, raw, key, value), line, reply)
 }
 
+// A write of a communication setting leaves two parts, and takes kinds from the line too.
 #[derive(Clone, Copy)]
 pub struct Configured {
     pub communication: Communication,

@@ -30,7 +30,7 @@ abbrev pub scaled_in : Head → Heard → Head
 scaled_in h w =
     let d = h.core.device in
     let r = scaled_by d.settings.profile d.reading.raw h.line w.reply w.key w.value in
-    with_line (with_reply (with_profile h r.profile) r.reply) r.line
+    with_line (with_reply (with_profile h r.part) r.reply) r.line
 
 abbrev pub entered_in : Head → Heard → Head
 entered_in h w =
@@ -48,10 +48,10 @@ abbrev pub saved_in : Head → Heard → Head
 saved_in h w =
     let d = h.core.device in
     let r = saved_by d.node d.settings h.line w.reply w.key in
-    with_line (with_reply (with_saved h r.saved) r.reply) r.line
+    with_line (with_reply (with_saved h r.part) r.reply) r.line
 
 abbrev pub emptied_in : Head → Heard → Head
-emptied_in h w = let r = emptied_by h.line w.reply in with_line (with_reply (with_errors h r.errors) r.reply) r.line
+emptied_in h w = let r = emptied_by h.line w.reply in with_line (with_reply (with_errors h r.part) r.reply) r.line
 
 -- for each way's number
 abbrev pub obeyed_in : Head → Heard → ℕ → Head
