@@ -2,7 +2,7 @@
 -- accepted and allowed by the state. By cases of the tests. Assumes nothing.
 use Prim.Native.Nat.{ℕ}
 use native.Mathlib.Omega.{arith}
-use mathlib.Core.Path.{◌≡◌, refl, ◌∙◌}
+use mathlib.Core.Path.{◌≡◌, refl}
 use mathlib.Core.Bool.{Bool, true, false, not, cond}
 use Rattle.entries.specs.declared.Device.{Device}
 use Rattle.entries.specs.declared.table.Row.{Row}
@@ -18,10 +18,6 @@ code a s = cond a 0 (cond s wrong_signature invalid_value)
 abbrev state : Bool → ℕ
 state b = cond b device_state 0
 
-aborted : (a s b : Bool) → (code a s ≡ 0 → ⊥) → code a s ≡ cond (not a) (cond s wrong_signature invalid_value) (state b)
-aborted true s b h = absurd (h refl)
-aborted false s b h = refl
-
 free : (a s b : Bool) → code a s ≡ 0 → state b ≡ cond (not a) (cond s wrong_signature invalid_value) (state b)
 free true s b h = refl
 free false true b h = absurd (omega arith)
@@ -33,22 +29,18 @@ unaborted true s false e = (refl, refl)
 unaborted false true b e = absurd (omega arith)
 unaborted false false b e = absurd (omega arith)
 
-module _ (d : Device) (r : Row) (v x : ℕ) (e : x ≡ value_abort_code r.3 d.node d.settings.profile.range v) where
+module _ (d : Device) (r : Row) (v x : ℕ) (e : x ≡ value_abort_code r.accepted d.node d.settings.profile.range v) where
   abbrev accepted : Bool
   accepted = accepts_in d r v
 
   abbrev stops : Bool
   stops = barred d (key r) v
 
-  pub value_first : (x ≡ 0 → ⊥) → x ≡ abort_code d r v
-  unfolding abort_code
-  value_first h = e ∙ aborted accepted (is_signature r.3) stops (λ z. h (e ∙ z))
-
   pub state_next : (b : Bool) → b ≡ barred d (key r) v → x ≡ 0 → state b ≡ abort_code d r v
   unfolding abort_code
-  state_next b f h = rw f (free accepted (is_signature r.3) stops (rw (← e) h))
+  state_next b f h = rw f (free accepted (is_signature r.accepted) stops (rw (← e) h))
 
 pub taken : (d : Device) (r : Row) (v : ℕ) → abort_code d r v ≡ 0
     → (accepts_in d r v ≡ true) × (barred d (key r) v ≡ false)
 unfolding abort_code
-taken d r v e = unaborted (accepts_in d r v) (is_signature r.3) (barred d (key r) v) e
+taken d r v e = unaborted (accepts_in d r v) (is_signature r.accepted) (barred d (key r) v) e

@@ -14,15 +14,14 @@ use Rattle.position.specs.Position.{directed, position, preset_to}
 use Rattle.position.proofs.Laws.{laws as position-laws}
 use Rattle.entries.specs.declared.Device.{Device}
 use Rattle.entries.specs.declared.table.Row.{Row}
-use Rattle.entries.specs.declared.table.Found.{Found}
-use Rattle.entries.specs.declared.table.Found.TheVariants.{At, NoSubIndex, NoIndex}
-use Rattle.entries.specs.Table.{missing, table, key, is_rw, accepted, when_blank, source, blank_in, number_of, key_of, lookup}
+use Rattle.entries.specs.Table.{Found, missing, table, key, is_rw, accepted, when_blank, source, blank_in, number_of, key_of, lookup}
+use Rattle.std.specs.Prelude.{Ok as At, Err, None as Blank, Some as Number}
+use Rattle.entries.specs.declared.table.NotFound.TheVariants.{NoSubIndex, NoIndex}
 use Rattle.entries.specs.Laws.{Listed}
 use Rattle.entries.proofs.Listed.{agree}
 use Rattle.entries.proofs.Laws.{laws as entries-laws}
 use Rattle.entries.specs.Keys.{preset_key}
-use Rattle.dictionary.specs.declared.read.Shown.{Shown}
-use Rattle.dictionary.specs.declared.read.Shown.TheVariants.{Blank, Number}
+use Rattle.dictionary.specs.Shown.{Shown}
 use Rattle.dictionary.specs.Accepted.{accepts_in, is_signature, barred}
 use Rattle.dictionary.specs.Reads.{shown, read_of, reads}
 use Rattle.dictionary.specs.Writes.{written, put}
@@ -101,8 +100,8 @@ module _ (d : Device) (o : Bool) (r : Row) (v : ℕ) (valid : ValidDevice d) (t 
   found_after i j (At q) e =
       let s = ((entries-laws.finds i j).at q).0 e in
       ap some (shown_after q s.0.0 ∙ ap (λ n. given es n (shown d o q)) (entries-laws.keys q i j s))
-  found_after i j NoSubIndex e = refl
-  found_after i j NoIndex e = refl
+  found_after i j (Err NoSubIndex) e = refl
+  found_after i j (Err NoIndex) e = refl
 
   reads_after_law : (i j : ℕ) → reads (written d k v) o i j ≡ anew es (key_of i j) (reads d o i j)
   reads_after_law i j = found_after i j (lookup i j) refl

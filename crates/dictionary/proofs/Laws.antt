@@ -6,14 +6,13 @@ use mathlib.Core.Bool.{Bool, false}
 use mathlib.Core.List.{List, map}
 use mathlib.Core.Option.{some}
 use Rattle.entries.specs.declared.Device.{Device}
-use Rattle.entries.specs.declared.table.Found.TheVariants.{At}
+use Rattle.std.specs.Prelude.{Ok as At, Some as Number}
 use Rattle.entries.specs.declared.table.Row.{Row}
 use Rattle.entries.specs.Table.{table, no_row, row_at, key, index, sub, width, is_rw, altered, lookup}
 use Rattle.entries.proofs.Listed.{agree}
 use Rattle.entries.specs.Laws.{columns}
 use Rattle.entries.proofs.Laws.{laws as entries-laws}
-use Rattle.dictionary.specs.declared.read.Shown.{Shown}
-use Rattle.dictionary.specs.declared.read.Shown.TheVariants.{Number}
+use Rattle.dictionary.specs.Shown.{Shown}
 use Rattle.dictionary.specs.Reads.{shown, read_of}
 use Rattle.dictionary.specs.Writes.{own_key, written, put}
 use Rattle.dictionary.specs.Laws.{Shows, Laws}

@@ -1,3 +1,4 @@
+pub mod AbortCodes
 pub mod Names
 pub mod Accepted
 pub mod Tested

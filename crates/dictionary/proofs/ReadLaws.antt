@@ -8,7 +8,7 @@ use lib.IntN.{negsuc}
 use borrow.Author.Tests.{lt-ltb, le-ltb}
 use Rattle.entries.specs.declared.Device.{Device}
 use Rattle.entries.specs.Table.{table, lookup}
-use Rattle.dictionary.specs.declared.read.Shown.TheVariants.{Blank, Number}
+use Rattle.std.specs.Prelude.{None as Blank, Some as Number}
 use Rattle.dictionary.specs.Reads.{shown}
 use Rattle.dictionary.specs.Laws.{Shows}
 use Rattle.dictionary.specs.ReadLaws.{numbers, ShowEach, ReadLaws}

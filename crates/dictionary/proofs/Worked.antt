@@ -6,9 +6,9 @@ use mathlib.Core.Path.{◌≡◌, refl}
 use mathlib.Core.Bool.{true}
 use Rattle.cases.proofs.Cases.{true_false}
 use Rattle.entries.specs.declared.table.Row.{Row}
-use Rattle.entries.specs.declared.table.Found.{Found}
-use Rattle.entries.specs.declared.table.Found.TheVariants.{At, NoSubIndex, NoIndex}
-use Rattle.entries.specs.Table.{table, no_row, lookup}
+use Rattle.entries.specs.Table.{Found, table, no_row, lookup}
+use Rattle.std.specs.Prelude.{Ok as At, Err}
+use Rattle.entries.specs.declared.table.NotFound.TheVariants.{NoSubIndex, NoIndex}
 use Rattle.entries.specs.Laws.{Listed}
 use Rattle.entries.proofs.Laws.{laws as entries-laws}
 use Rattle.dictionary.specs.Accepted.{abort_code}
@@ -50,8 +50,8 @@ at_valid =
 -- the row of the entry that is found
 abbrev row_in : Found → Row
 row_in (At r) = r
-row_in NoSubIndex = no_row
-row_in NoIndex = no_row
+row_in (Err NoSubIndex) = no_row
+row_in (Err NoIndex) = no_row
 
 listed : (i j : ℕ) (r : Row) → lookup i j ≡ At r → Listed r
 listed i j r e = (((entries-laws.finds i j).at r).0 e).0.0

@@ -1,12 +1,11 @@
 -- Which values an rw entry accepts, which abort code any other value gets, and which writes the state forbids, in plain numbers.
 -- These laws check specs/Accepted and use none of its tests. 01, chapter "Entries", and steps 5 and 6 of "First that applies".
-use Rattle.std.specs.Prelude.{ℕ, ◌+◌, ◌/◌, ◌%◌, ◌^◌, ◌≤◌, ◌<◌, ◌≡◌, ◌↔◌, ◌⊎◌, Bool, true, false, cond, List, [], ◌∷◌, map}
+use Rattle.std.specs.Prelude.{ℕ, ◌+◌, ◌/◌, ◌%◌, ◌^◌, ◌≤◌, ◌<◌, ◌≡◌, ◌↔◌, ◌⊎◌, Bool, true, false, cond, List, [], ◌∷◌, map, Ok as At, Err}
 use Rattle.entries.specs.declared.Pdo.{Pdo}
 use Rattle.entries.specs.declared.Device.{Device}
 use Rattle.entries.specs.declared.table.Row.{Row}
-use Rattle.entries.specs.declared.table.Found.{Found}
-use Rattle.entries.specs.declared.table.Found.TheVariants.{At, NoSubIndex, NoIndex}
-use Rattle.entries.specs.Table.{table, key, index, sub, width, is_rw, accepted, lookup}
+use Rattle.entries.specs.Table.{Found, table, key, index, sub, width, is_rw, accepted, lookup}
+use Rattle.entries.specs.declared.table.NotFound.TheVariants.{NoSubIndex, NoIndex}
 use Rattle.entries.specs.Laws.{Listed}
 use Rattle.dictionary.specs.Accepted.{is_signature, accepts_in, barred, abort_code}
 
@@ -67,8 +66,8 @@ those t (a ∷ l) = cond (t a) (a ∷ those t l) (those t l)
 -- whether the entry that is found accepts v
 abbrev pub accepts_of : Device → ℕ → Found → Bool
 accepts_of d v (At r) = accepts_in d r v
-accepts_of d v NoSubIndex = false
-accepts_of d v NoIndex = false
+accepts_of d v (Err NoSubIndex) = false
+accepts_of d v (Err NoIndex) = false
 
 -- Among the numbers of its length, the entry of each line accepts exactly those that the line says.
 abbrev pub AcceptEach : Device → ℕ → List Line → Type 0

@@ -1,6 +1,6 @@
 -- What the entries read after an accepted write, and what the saved set then is: lists by the key of the written entry,
 -- to compare with 01's chapters "Entries" and "Position" line by line. `EffectLaws` states that the entries do read so.
-use Rattle.std.specs.Prelude.{ℕ, ◌+◌, eqb, pos, ◌-ℤ◌, ◌≡◌, Bool, cond, List, [], ◌∷◌}
+use Rattle.std.specs.Prelude.{ℕ, ◌+◌, eqb, pos, ◌-ℤ◌, ◌≡◌, Bool, cond, List, [], ◌∷◌, None as Blank, Some as Number}
 use Rattle.std.proofs.Math.Option.{Option, none, some}
 use Rattle.can.specs.Signed.{twos}
 use Rattle.position.specs.Position.{directed, position}
@@ -9,8 +9,7 @@ use Rattle.entries.specs.declared.Settings.{Settings}
 use Rattle.entries.specs.declared.table.Row.{Row}
 use Rattle.entries.specs.Settings.{factory}
 use Rattle.entries.specs.Table.{missing, key_of, key}
-use Rattle.dictionary.specs.declared.read.Shown.{Shown}
-use Rattle.dictionary.specs.declared.read.Shown.TheVariants.{Blank, Number}
+use Rattle.dictionary.specs.Shown.{Shown}
 use Rattle.dictionary.specs.Reads.{shown, reads}
 use Rattle.dictionary.specs.Writes.{range_for, rescaled_to, written}
 use Rattle.dictionary.specs.Valid.{ValidDevice}

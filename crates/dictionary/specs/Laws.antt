@@ -1,14 +1,13 @@
 -- Laws for every device and every entry: the factory settings, accepted writes, and the numbers that entries read.
 -- 01, chapter "Entries".
-use Rattle.std.specs.Prelude.{ℕ, ◌^◌, ◌≤◌, ◌<◌, get_or, ◌≡◌, Bool, true, false, cond}
+use Rattle.std.specs.Prelude.{ℕ, ◌^◌, ◌≤◌, ◌<◌, get_or, ◌≡◌, Bool, true, false, cond, Some as Number}
 use Rattle.std.proofs.Math.Option.{some}
 use Rattle.entries.specs.declared.Device.{Device}
 use Rattle.entries.specs.Settings.{factory}
 use Rattle.entries.specs.declared.table.Row.{Row}
 use Rattle.entries.specs.Table.{row_at, key, index, sub, width, is_rw, accepted, source, number_of, altered}
 use Rattle.entries.specs.Laws.{Listed, columns}
-use Rattle.dictionary.specs.declared.read.Shown.{Shown}
-use Rattle.dictionary.specs.declared.read.Shown.TheVariants.{Number}
+use Rattle.dictionary.specs.Shown.{Shown}
 use Rattle.dictionary.specs.Accepted.{is_signature, abort_code}
 use Rattle.dictionary.specs.Reads.{reads}
 use Rattle.dictionary.specs.Writes.{own_key, written, Fits}

@@ -1,5 +1,6 @@
 pub mod AbortCodes
 pub mod Accepted
+pub mod Shown
 pub mod Reads
 pub mod Writes
 pub mod Valid

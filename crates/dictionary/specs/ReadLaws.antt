@@ -1,12 +1,10 @@
 -- What each entry reads, for every device, Operational or not. These laws check
 -- specs/Reads and the last columns of the table in crate entries. 01, chapter "Entries".
-use Rattle.std.specs.Prelude.{ℕ, suc, ◌+◌, ◌-◌, ◌≤◌, ◌<◌, pos, negsuc, ◌≡◌, Bool, true, false, List, [], ◌∷◌}
+use Rattle.std.specs.Prelude.{ℕ, suc, ◌+◌, ◌-◌, ◌≤◌, ◌<◌, pos, negsuc, ◌≡◌, Bool, true, false, List, [], ◌∷◌, Ok as At, None as Blank, Some as Number}
 use Rattle.position.specs.Position.{position}
 use Rattle.entries.specs.declared.Device.{Device}
 use Rattle.entries.specs.declared.table.Row.{Row}
-use Rattle.entries.specs.declared.table.Found.TheVariants.{At}
 use Rattle.entries.specs.Table.{lookup}
-use Rattle.dictionary.specs.declared.read.Shown.TheVariants.{Blank, Number}
 use Rattle.dictionary.specs.Reads.{shown}
 use Rattle.dictionary.specs.Laws.{Shows}
 

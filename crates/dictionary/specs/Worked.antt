@@ -1,17 +1,15 @@
 -- Examples at node 1 with factory settings: what entries read, which writes are aborted, and what writes do.
 -- 01, chapters "Worked numbers", "Entries", "Position" and "Service requests".
-use Rattle.std.specs.Prelude.{ℕ, ◌^◌, eqb, ltb, ◌≡◌, Bool, true, false, not, ◌&&◌, cond, List, [], ◌∷◌}
+use Rattle.std.specs.Prelude.{ℕ, ◌^◌, eqb, ltb, ◌≡◌, Bool, true, false, not, ◌&&◌, cond, List, [], ◌∷◌, Ok as At, Err, None as Blank, Some as Number}
 use Rattle.std.proofs.Math.Option.{Option, none, some}
 use Rattle.names.specs.Name.{named}
 use Rattle.entries.specs.declared.Device.{Device}
 use Rattle.entries.specs.declared.Identity.{Identity}
 use Rattle.entries.specs.declared.table.Row.{Row}
-use Rattle.entries.specs.declared.table.Found.{Found}
-use Rattle.entries.specs.declared.table.Found.TheVariants.{At, NoSubIndex, NoIndex}
+use Rattle.entries.specs.Table.{Found, table, key, width, is_rw, lookup}
+use Rattle.entries.specs.declared.table.NotFound.TheVariants.{NoSubIndex, NoIndex}
 use Rattle.entries.specs.Settings.{factory}
-use Rattle.entries.specs.Table.{table, key, width, is_rw, lookup}
-use Rattle.dictionary.specs.declared.read.Shown.{Shown}
-use Rattle.dictionary.specs.declared.read.Shown.TheVariants.{Blank, Number}
+use Rattle.dictionary.specs.Shown.{Shown}
 use Rattle.dictionary.specs.Accepted.{abort_code}
 use Rattle.dictionary.specs.Reads.{reads}
 use Rattle.dictionary.specs.Writes.{written}
@@ -75,8 +73,8 @@ Reads d i j s = Shows d false i j s
 -- what the entry that is found answers to a write of v; none if none is found
 abbrev pub abort_code_of : Device → ℕ → Found → Option ℕ
 abort_code_of d v (At r) = some (abort_code d r v)
-abort_code_of d v NoSubIndex = none
-abort_code_of d v NoIndex = none
+abort_code_of d v (Err NoSubIndex) = none
+abort_code_of d v (Err NoIndex) = none
 
 -- A write of v to the entry i-j is aborted with this code; 0: it is accepted.
 abbrev pub Answers : Device → ℕ → ℕ → ℕ → ℕ → Type 0
@@ -256,11 +254,11 @@ pub record Worked : Type 0 where
   -- r = 100, preset 40: 6509h is −60, `C4 FF FF FF`; then r = 50 reads 1,048,566
   pub p10 : Reads preset 0x6509 0 (Number 0xFFFFFFC4) × Reads (moved_to 50 preset) 0x6004 0 (Number 1048566)
   -- read 1801-3
-  pub p11 : lookup 0x1801 3 ≡ NoSubIndex
+  pub p11 : lookup 0x1801 3 ≡ Err NoSubIndex
   -- 6002h: 999 gives 0609 0030h; 1,000 with scaling off 0800 0022h
   pub p12 : Answers fresh 0x6002 0 999 invalid_value × Answers fresh 0x6002 0 1000 device_state
   -- the index of P4
-  pub no_index : lookup 0x2102 0 ≡ NoIndex
+  pub no_index : lookup 0x2102 0 ≡ Err NoIndex
   -- value before state: 6003h is below 6002h, and not written while missing
   pub value_first : Answers fresh 0x6003 0 1048576 invalid_value × Answers fresh 0x6003 0 40 device_state
       × Answers (at 100) 0x6003 0 1048575 0

@@ -1,5 +1,5 @@
-//! The object dictionary: what each entry reads, which values it accepts, and
-//! what a write does (01, "Entries"). Types, definitions and laws, no code.
+//! The object dictionary: what each entry reads, which values it accepts, and what a write does (01, "Entries"):
+//! definitions and laws. Its code is the abort codes; crates above have the rest.
 
 #![tactic(auto)]
 
@@ -11,7 +11,7 @@ ghost use Rattle.dictionary.specs.Laws.{Laws};
 ghost use Rattle.dictionary.specs.Effects.{EffectLaws};
 ghost use Rattle.dictionary.specs.Worked.{Worked};
 
-pub mod read;
+pub mod abort;
 
 // This function does nothing. It ensures the statements of the crate, so the crate is proved only if they are.
 fn statements()

@@ -8,9 +8,9 @@ use lib.Dec.{eqb, ltb}
 use borrow.Author.Tests.{eqb-true, eqb-false, eq-eqb, ne_eqb, ltb-true}
 use Rattle.cases.proofs.Cases.{by, test, both}
 use Rattle.entries.specs.declared.table.Row.{Row}
-use Rattle.entries.specs.declared.table.Found.{Found}
-use Rattle.entries.specs.declared.table.Found.TheVariants.{At, NoSubIndex, NoIndex}
-use Rattle.entries.specs.Table.{table, key, index, sub, no_sub, lookup_in, lookup}
+use Rattle.entries.specs.Table.{Found, table, key, index, sub, no_sub, lookup_in, lookup}
+use Rattle.std.specs.Prelude.{Ok as At, Err}
+use Rattle.entries.specs.declared.table.NotFound.TheVariants.{NoSubIndex, NoIndex}
 use Rattle.entries.specs.Laws.{rises_from, Stands, Finds}
 use Rattle.entries.proofs.Listed.{In, here, later}
 
@@ -21,20 +21,20 @@ Has l i r = In l r × (index r ≡ i)
 -- what an answer says about the rows l
 abbrev Tells : List Row → ℕ → ℕ → Found → Type 0
 Tells l i j (At r) = Has l i r × (sub r ≡ j)
-Tells l i j NoSubIndex = (r : Row) × Has l i r
-Tells l i j NoIndex = (r : Row) → Has l i r → ⊥
+Tells l i j (Err NoSubIndex) = (r : Row) × Has l i r
+Tells l i j (Err NoIndex) = (r : Row) → Has l i r → ⊥
 
 module _ (a : Row) (l : List Row) (i j : ℕ) where
   -- behind a row of that index, and behind one of another
   same_index : index a ≡ i → (f : Found) → Tells l i j f → Tells (a ∷ l) i j (no_sub f)
   same_index e (At r) t = ((later a l r t.0.0, t.0.1), t.1)
-  same_index e NoSubIndex t = (a, (here a l, e))
-  same_index e NoIndex t = (a, (here a l, e))
+  same_index e (Err NoSubIndex) t = (a, (here a l, e))
+  same_index e (Err NoIndex) t = (a, (here a l, e))
 
   other_index : (index a ≡ i → ⊥) → (f : Found) → Tells l i j f → Tells (a ∷ l) i j f
   other_index e (At r) t = ((later a l r t.0.0, t.0.1), t.1)
-  other_index e NoSubIndex t = (t.0, (later a l t.0 t.1.0, t.1.1))
-  other_index e NoIndex t = none
+  other_index e (Err NoSubIndex) t = (t.0, (later a l t.0 t.1.0, t.1.1))
+  other_index e (Err NoIndex) t = none
     where
       none : (r : Row) → Has (a ∷ l) i r → ⊥
       none r ((zero, (h, x)), y) = e (rw x y)
@@ -78,15 +78,15 @@ pub rising : rises_from 0 (map key table) ≡ true
 unfolding table
 rising = refl
 
-only_sub : (f : Found) → ((r : Row) → f ≡ At r → ⊥) → (f ≡ NoIndex → ⊥) → f ≡ NoSubIndex
+only_sub : (f : Found) → ((r : Row) → f ≡ At r → ⊥) → (f ≡ Err NoIndex → ⊥) → f ≡ Err NoSubIndex
 only_sub (At r) a n = absurd (a r refl)
-only_sub NoSubIndex a n = refl
-only_sub NoIndex a n = absurd (n refl)
+only_sub (Err NoSubIndex) a n = refl
+only_sub (Err NoIndex) a n = absurd (n refl)
 
-only_none : (f : Found) → ((r : Row) → f ≡ At r → ⊥) → (f ≡ NoSubIndex → ⊥) → f ≡ NoIndex
+only_none : (f : Found) → ((r : Row) → f ≡ At r → ⊥) → (f ≡ Err NoSubIndex → ⊥) → f ≡ Err NoIndex
 only_none (At r) a n = absurd (a r refl)
-only_none NoSubIndex a n = absurd (n refl)
-only_none NoIndex a n = refl
+only_none (Err NoSubIndex) a n = absurd (n refl)
+only_none (Err NoIndex) a n = refl
 
 module _ (i j : ℕ) where
   told : Tells table i j (lookup i j)
@@ -100,7 +100,7 @@ module _ (i j : ℕ) where
   unfolding lookup
   stood r s = rw (← s.0.1, ← s.1) (finds_row 0 table r rising s.0.0)
 
-  not_both : (r : Row) → lookup i j ≡ NoSubIndex → lookup i j ≡ At r → ⊥
+  not_both : (r : Row) → lookup i j ≡ Err NoSubIndex → lookup i j ≡ At r → ⊥
   not_both r e f = let z : ◌≡◌ {A = ℕ} 0 1 = cc in omega arith
 
   pub finds : Finds i j

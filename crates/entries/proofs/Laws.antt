@@ -8,9 +8,9 @@ use mathlib.Core.List.{List, [], ◌∷◌, map}
 use Rattle.cases.proofs.Cases.{test}
 use Rattle.entries.specs.declared.table.Row.{Row}
 use Rattle.entries.specs.declared.table.Accepted.TheVariants.{Nothing}
-use Rattle.entries.specs.declared.table.Found.{Found}
-use Rattle.entries.specs.declared.table.Found.TheVariants.{At, NoSubIndex, NoIndex}
-use Rattle.entries.specs.Table.{table, key, index, sub, width, is_rw, accepted, no_sub, lookup_in, lookup}
+use Rattle.entries.specs.Table.{Found, table, key, index, sub, width, is_rw, accepted, no_sub, lookup_in, lookup}
+use Rattle.std.specs.Prelude.{Ok as At, Err}
+use Rattle.entries.specs.declared.table.NotFound.TheVariants.{NoSubIndex, NoIndex}
 use Rattle.entries.specs.Laws.{Listed, columns, Line, index_stands, sought_in, line_of, Laws}
 use Rattle.entries.proofs.Listed.{agree}
 use Rattle.entries.proofs.Found.{rising, finds}
@@ -24,8 +24,8 @@ all_of_them = refl
 
 no_sub_law : (x : Found) → line_of (no_sub x) ≡ index_stands (line_of x)
 no_sub_law (At r) = refl
-no_sub_law NoSubIndex = refl
-no_sub_law NoIndex = refl
+no_sub_law (Err NoSubIndex) = refl
+no_sub_law (Err NoIndex) = refl
 
 line_of_law : (l : List Row) (i j : ℕ) → line_of (lookup_in l i j) ≡ sought_in (map line l) i j
 line_of_law [] i j = refl

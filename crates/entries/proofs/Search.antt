@@ -1,79 +1,64 @@
 -- The row of a key: it stands in the list, or no row has the key. Each index of the list has the sub-index 0. Assumes nothing.
 use Prim.Native.Nat.{ℕ, zero, suc, ◌<◌, ◌≤◌}
 use native.Mathlib.Omega.{arith}
-use mathlib.Core.Path.{◌≡◌, refl, sym, ap, ◌∙◌}
-use mathlib.Core.Logic.{◌⊎◌, inl, inr}
+use mathlib.Core.Path.{◌≡◌, refl, sym, ap, subst, ◌∙◌}
 use mathlib.Core.Bool.{Bool, true, false, ◌||◌, ◌&&◌}
 use mathlib.Core.List.{List, [], ◌∷◌, map}
 use lib.Dec.{eqb, leb, ltb}
-use borrow.Author.Tests.{eqb-true, eqb-false, ne_eqb, eq-eqb, leb-true, ltb-true}
+use borrow.Author.Tests.{eqb-true, eqb-false, ne_eqb, leb-true, ltb-true}
 use Rattle.cases.proofs.Cases.{true_false, test, both, either}
 use Rattle.entries.specs.declared.table.Row.{Row}
-use Rattle.entries.specs.Table.{table, key, index, width, key_of, no_row, with_key, row_of_key}
-use Rattle.entries.specs.Laws.{Listed, HasIndex, Stands}
+use Rattle.std.specs.Prelude.{Option, None, Some}
+use Rattle.entries.specs.Table.{table, key, index, key_of, with_key, row_of_key}
+use Rattle.entries.specs.Laws.{HasIndex, Stands}
 use Rattle.entries.proofs.Listed.{In, here, later, agree}
 
--- what is known of the row r that was sought for the key k in l
-abbrev Sought : List Row → ℕ → Row → Type 0
-Sought l k r = (In l r × (key r ≡ k)) ⊎ ((r ≡ no_row) × ((q : Row) → In l q → key q ≡ k → ⊥))
+-- what is known of what was sought for the key k in l
+abbrev Sought : List Row → ℕ → Option Row → Type 0
+Sought l k (Some r) = In l r × (key r ≡ k)
+Sought l k None = (q : Row) → In l q → key q ≡ k → ⊥
 
-behind : (a : Row) (l : List Row) (k : ℕ) (r : Row) → (key a ≡ k → ⊥) → Sought l k r → Sought (a ∷ l) k r
-behind a l k r n (inl (h, e)) = inl (later a l r h, e)
-behind a l k r n (inr (e, f)) = inr (e, none)
+behind : (a : Row) (l : List Row) (k : ℕ) (x : Option Row) → (key a ≡ k → ⊥) → Sought l k x → Sought (a ∷ l) k x
+behind a l k (Some r) n (h, e) = (later a l r h, e)
+behind a l k None n f = none
   where
     none : (q : Row) → In (a ∷ l) q → key q ≡ k → ⊥
     none q (zero, (h, x)) y = n (rw x y)
     none q (suc p, (h, x)) y = f q (p, (omega arith, x)) y
 
 sought : (l : List Row) (k : ℕ) → Sought l k (with_key l k)
-sought [] k = inr (refl, λ q h. absurd (omega arith))
+sought [] k = λ q h. absurd (omega arith)
 sought (a ∷ l) k =
     test (eqb (key a) k)
-    (λ e. rw e (inl (here a l, eqb-true _ _ e)))
+    (λ e. rw e (here a l, eqb-true _ _ e))
     (λ e. rw e (behind a l k (with_key l k) (eqb-false _ _ e) (sought l k)))
 
 found : (k : ℕ) → Sought table k (row_of_key k)
 unfolding row_of_key
 found k = sought table k
 
--- Each row has a type,
-typed : map (λ r. eqb (width r) 0) table ≡ map (λ r. false) table
-unfolding table
-typed = refl
+-- Each index has the sub-index 0.
+abbrev is_none : Option Row → Bool
+is_none None = true
+is_none (Some r) = false
 
-typed_row : (r : Row) → Listed r → width r ≡ 0 → ⊥
-typed_row r h e = true_false (sym (eq-eqb (width r) 0 e) ∙ agree (λ q. eqb (width q) 0) (λ q. false) typed r h)
-
--- and each index the sub-index 0.
-first : map (λ r. eqb (width (row_of_key (key_of (index r) 0))) 0) table ≡ map (λ r. false) table
+first : map (λ r. is_none (row_of_key (key_of (index r) 0))) table ≡ map (λ r. false) table
 unfolding table row_of_key
 first = refl
 
 module _ (i j : ℕ) where
-  abbrev k : ℕ
-  k = key_of i j
+  pub there : (r : Row) → j < 256 → row_of_key (key_of i j) ≡ Some r → Stands r i j
+  there r b e = let h = subst (Sought table (key_of i j)) e (found (key_of i j)) in ((h.0, omega (arith, h.1)), omega (arith, h.1))
 
-  pub there : j < 256 → (width (row_of_key k) ≡ 0 → ⊥) → Stands (row_of_key k) i j
-  there b n = by_sought (row_of_key k) (found k) n
-    where
-      by_sought : (r : Row) → Sought table k r → (width r ≡ 0 → ⊥) → Stands r i j
-      by_sought r (inl (h, e)) m = ((h, omega arith), omega arith)
-      by_sought r (inr (e, f)) m = absurd (m (ap width e))
+  pub not_there : row_of_key (key_of i j) ≡ None → (r : Row) → Stands r i j → ⊥
+  not_there e r s =
+      let h = subst (Sought table (key_of i j)) e (found (key_of i j)) in
+      h r s.0.0 (let x = s.0.1 in let y = s.1 in omega arith)
 
-  pub not_there : width (row_of_key k) ≡ 0 → (r : Row) → Stands r i j → ⊥
-  not_there e r s = by_sought (row_of_key k) (found k) e
-    where
-      its_key : key r ≡ k
-      its_key = let x = s.0.1 in let y = s.1 in omega arith
-
-      by_sought : (q : Row) → Sought table k q → width q ≡ 0 → ⊥
-      by_sought q (inl (h, x)) f = typed_row q h f
-      by_sought q (inr (x, g)) f = g r s.0.0 its_key
-
-pub no_first : (i : ℕ) → width (row_of_key (key_of i 0)) ≡ 0 → (r : Row) → HasIndex r i → ⊥
+pub no_first : (i : ℕ) → row_of_key (key_of i 0) ≡ None → (r : Row) → HasIndex r i → ⊥
 no_first i e r h =
-    let f = agree (λ q. eqb (width (row_of_key (key_of (index q) 0))) 0) (λ q. false) first r h.0 in
-    true_false (sym (eq-eqb _ 0 e) ∙ (rw h.1 at f))
+    let f = agree (λ q. is_none (row_of_key (key_of (index q) 0))) (λ q. false) first r h.0 in
+    true_false (ap is_none (sym e) ∙ (rw h.1 at f))
 
 -- What the default arm of a `match` on a number knows: the number is none of the keys (last arm's key first).
 abbrev Beside : ℕ → List ℕ → Type 0
@@ -98,7 +83,7 @@ not_listed k a (n ∷ ks) b e =
 
 -- No row has a key that is none of those of its half, ks, if the other rows' keys are not in that half.
 absent_in : (l : List Row) (ks : List ℕ) (t : ℕ → Bool) (k : ℕ) → ((a : ℕ) → t a ≡ true → eqb a k ≡ false) → all_listed ks t l ≡ true
-    → Beside k ks → no_row ≡ with_key l k
+    → Beside k ks → None ≡ with_key l k
 absent_in [] ks t k o e b = refl
 absent_in (r ∷ l) ks t k o e b =
     let h = both (listed ks (key r) || t (key r)) (all_listed ks t l) e in
@@ -106,13 +91,13 @@ absent_in (r ∷ l) ks t k o e b =
     rw other (absent_in l ks t k o h.1 b)
 
 absent : (ks : List ℕ) (t : ℕ → Bool) (k : ℕ) → ((a : ℕ) → t a ≡ true → eqb a k ≡ false) → all_listed ks t table ≡ true → Beside k ks
-    → no_row ≡ row_of_key k
+    → None ≡ row_of_key k
 unfolding row_of_key
 absent ks t k o e b = absent_in table ks t k o e b
 
 -- the lower half ends before b, and the upper half begins there
-pub absent_low : (b : ℕ) (ks : List ℕ) (k : ℕ) → k < b → all_listed ks (leb b) table ≡ true → Beside k ks → no_row ≡ row_of_key k
+pub absent_low : (b : ℕ) (ks : List ℕ) (k : ℕ) → k < b → all_listed ks (leb b) table ≡ true → Beside k ks → None ≡ row_of_key k
 absent_low b ks k l = absent ks (leb b) k (λ a e. let h = leb-true b a e in ne_eqb a k (λ f. omega arith))
 
-pub absent_high : (b : ℕ) (ks : List ℕ) (k : ℕ) → b ≤ k → all_listed ks (λ a. ltb a b) table ≡ true → Beside k ks → no_row ≡ row_of_key k
+pub absent_high : (b : ℕ) (ks : List ℕ) (k : ℕ) → b ≤ k → all_listed ks (λ a. ltb a b) table ≡ true → Beside k ks → None ≡ row_of_key k
 absent_high b ks k l = absent ks (λ a. ltb a b) k (λ a e. let h = ltb-true a b e in ne_eqb a k (λ f. omega arith))

@@ -1,14 +1,13 @@
 -- Laws of the table: its order, and what is found for every index and sub-index.
 -- 01, chapter "Entries".
-use Rattle.std.specs.Prelude.{ℕ, ◌+◌, ◌*◌, ◌<◌, eqb, ltb, length, ◌≡◌, ◌↔◌, Bool, true, false, ◌&&◌, cond, List, [], ◌∷◌, map}
+use Rattle.std.specs.Prelude.{ℕ, ◌+◌, ◌*◌, ◌<◌, eqb, ltb, length, ◌≡◌, ◌↔◌, Bool, true, false, ◌&&◌, cond, List, [], ◌∷◌, map, Ok as At, Err}
 use Rattle.std.proofs.Math.Option.{Option, none, some}
 use Rattle.entries.specs.declared.Identity.{Identity}
 use Rattle.entries.specs.Identity.{name_of}
 use Rattle.entries.specs.declared.table.Row.{Row}
 use Rattle.entries.specs.declared.table.Accepted.TheVariants.{Nothing}
-use Rattle.entries.specs.declared.table.Found.{Found}
-use Rattle.entries.specs.declared.table.Found.TheVariants.{At, NoSubIndex, NoIndex}
-use Rattle.entries.specs.Table.{table, row_at, key, index, sub, width, is_rw, accepted, lookup}
+use Rattle.entries.specs.Table.{Found, table, row_at, key, index, sub, width, is_rw, accepted, lookup}
+use Rattle.entries.specs.declared.table.NotFound.TheVariants.{NoSubIndex, NoIndex}
 
 -- The list has the row r.
 abbrev pub Listed : Row → Type 0
@@ -27,9 +26,9 @@ pub record Finds (i j : ℕ) : Type 0 where
   -- a row is found exactly if the list has it
   pub at : (r : Row) → (lookup i j ≡ At r) ↔ Stands r i j
   -- no such sub-index: some row has the index, and none has both
-  pub no_sub_index : (lookup i j ≡ NoSubIndex) ↔ (((r : Row) × HasIndex r i) × ((r : Row) → Stands r i j → ⊥))
+  pub no_sub_index : (lookup i j ≡ Err NoSubIndex) ↔ (((r : Row) × HasIndex r i) × ((r : Row) → Stands r i j → ⊥))
   -- no such index: no row has it
-  pub no_index : (lookup i j ≡ NoIndex) ↔ ((r : Row) → HasIndex r i → ⊥)
+  pub no_index : (lookup i j ≡ Err NoIndex) ↔ ((r : Row) → HasIndex r i → ⊥)
 
 -- increasing keys: each is above the one before it, the first above a
 abbrev pub rises_from : ℕ → List ℕ → Bool
@@ -103,8 +102,8 @@ sought_in (l ∷ ls) i j = cond (eqb l.0 i) (cond (eqb l.1 j) (some (some l)) (i
 
 abbrev pub line_of : Found → Option (Option Line)
 line_of (At r) = some (some (index r, sub r, width r, is_rw r))
-line_of NoSubIndex = some none
-line_of NoIndex = none
+line_of (Err NoSubIndex) = some none
+line_of (Err NoIndex) = none
 
 pub record Laws : Type 0 where
   -- What is found for every index and sub-index is what these columns have: these entries, and no others.

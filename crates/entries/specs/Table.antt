@@ -1,6 +1,7 @@
 -- The table of 01's chapter "Entries" as a list in index order, one line for each entry, to compare
 -- with 01 line by line; what its columns mean; and what the list has for an index and a sub-index.
 use Rattle.std.specs.Prelude.{ℕ, ◌+◌, ◌*◌, ◌/◌, ◌%◌, eqb, ltb, get_or, Bool, true, false, not, cond, List, [], ◌∷◌}
+use Rattle.std.specs.Prelude.{Option, None, Some, Result, Ok as At, Err}
 use Rattle.can.specs.Signed.{twos}
 use Rattle.position.specs.Position.{position}
 use Rattle.entries.specs.declared.Settings.{Settings}
@@ -15,8 +16,8 @@ use Rattle.entries.specs.declared.table.WhenBlank.TheVariants.{Never, Missing, B
 use Rattle.entries.specs.declared.table.Source.{Source}
 use Rattle.entries.specs.declared.table.Source.TheVariants.{Fixed, Setting, Register, ErrorCount, Name}
 use Rattle.entries.specs.declared.table.Source.TheVariants.{Vendor, Product, Revision, Serial, Position, Status, Offset}
-use Rattle.entries.specs.declared.table.Found.{Found}
-use Rattle.entries.specs.declared.table.Found.TheVariants.{At, NoSubIndex, NoIndex}
+use Rattle.entries.specs.declared.table.NotFound.{NotFound}
+use Rattle.entries.specs.declared.table.NotFound.TheVariants.{NoSubIndex, NoIndex}
 
 -- A type is its number of bytes; S32 is two's complement. A name is a string of 1 to 32 bytes: it reads its size, and segments carry it.
 abbrev U8 : ℕ
@@ -44,9 +45,13 @@ rw = true
 abbrev pub key_of : ℕ → ℕ → ℕ
 key_of i j = i * 256 + j
 
--- Index, sub-index, type, access, accepted values, when it is blank, where its number comes from.
+-- Key, type, access, accepted values, when it is blank, where its number comes from;
+abbrev pub line : ℕ → ℕ → Bool → Accepted → WhenBlank → Source → Row
+line k w a v b s = record { key = k; width = w; rw = a; accepted = v; blank = b; source = s }
+
+-- with the key's index and sub-index.
 abbrev row : ℕ → ℕ → ℕ → Bool → Accepted → WhenBlank → Source → Row
-row i j w a v b s = (key_of i j, w, a, v, b, s)
+row i j w a v b s = line (key_of i j) w a v b s
 
 unfoldable pub table : List Row
 table =
@@ -101,7 +106,7 @@ table =
 
 -- the columns of a row
 abbrev pub key : Row → ℕ
-key r = r.0
+key r = r.key
 
 abbrev pub index : Row → ℕ
 index r = key r / 256
@@ -110,19 +115,19 @@ abbrev pub sub : Row → ℕ
 sub r = key r % 256
 
 abbrev pub width : Row → ℕ
-width r = r.1
+width r = r.width
 
 abbrev pub is_rw : Row → Bool
-is_rw r = r.2
+is_rw r = r.rw
 
 abbrev pub accepted : Row → Accepted
-accepted r = r.3
+accepted r = r.accepted
 
 abbrev pub when_blank : Row → WhenBlank
-when_blank r = r.4
+when_blank r = r.blank
 
 abbrev pub source : Row → Source
-source r = r.5
+source r = r.source
 
 abbrev pub missing : Device → Bool
 missing d = not d.reading.good
@@ -200,28 +205,32 @@ altered r = alters (source r) (key r)
 
 -- no entry, and so past the end of the list
 abbrev pub no_row : Row
-no_row = (0, 0, ro, Nothing, Never, Fixed 0)
+no_row = line 0 0 ro Nothing Never (Fixed 0)
 
 -- the row at a place of the list
 abbrev pub row_at : ℕ → Row
 row_at p = get_or table p no_row
 
--- the row of a key, or no entry
-abbrev pub with_key : List Row → ℕ → Row
-with_key [] k = no_row
-with_key (r ∷ rs) k = cond (eqb (key r) k) r (with_key rs k)
+-- the row of a key, if any
+abbrev pub with_key : List Row → ℕ → Option Row
+with_key [] k = None
+with_key (r ∷ rs) k = cond (eqb (key r) k) (Some r) (with_key rs k)
 
-unfoldable pub row_of_key : ℕ → Row
+unfoldable pub row_of_key : ℕ → Option Row
 row_of_key k = with_key table k
+
+-- what the list has for an index and a sub-index
+abbrev pub Found : Type 0
+Found = Result Row NotFound
 
 abbrev pub no_sub : Found → Found
 no_sub (At r) = At r
-no_sub NoSubIndex = NoSubIndex
-no_sub NoIndex = NoSubIndex
+no_sub (Err NoSubIndex) = Err NoSubIndex
+no_sub (Err NoIndex) = Err NoSubIndex
 
 -- the row of the entry i-j among these; if there is no such entry, whether any row has the index
 abbrev pub lookup_in : List Row → ℕ → ℕ → Found
-lookup_in [] i j = NoIndex
+lookup_in [] i j = Err NoIndex
 lookup_in (r ∷ rs) i j = cond (eqb (index r) i) (cond (eqb (sub r) j) (At r) (no_sub (lookup_in rs i j))) (lookup_in rs i j)
 
 unfoldable pub lookup : ℕ → ℕ → Found

@@ -88,13 +88,11 @@ pub struct Identity {
 pub fn name_of(identity: Identity, number: u8) -> Name
     ensures { result ≡ name_of identity number }
 {
-    if number == 1 {
-        return identity.name;
+    match number {
+        1 => identity.name,
+        2 => identity.hardware,
+        _ => identity.software,
     }
-    if number == 2 {
-        return identity.hardware;
-    }
-    identity.software
 }
 
 // The present sample: its raw number is 0 while it is missing.

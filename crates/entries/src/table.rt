@@ -1,6 +1,6 @@
 //! The list of entries, in index order, one line for each, and the search in it. 01, "Entries".
 ghost use Rattle.std.specs.Prelude.{◌≡◌, ◌<◌, ◌≤◌};
-ghost use Rattle.entries.specs.Table.{key_of, row_of_key, lookup, altered as alteredBy};
+ghost use Rattle.entries.specs.Table.{key_of, line, row_of_key, lookup, altered as alteredBy};
 
 use Accepted::{
     All, BelowRange, Between, EmergencyIdentifier, Nothing, Only, OperatingParameters,
@@ -52,21 +52,20 @@ pub enum Source {
     Offset,
 }
 
-// Key, type, whether it can be written, accepted values, when it is blank, where its number comes from.
+// The width is the type's number of bytes; `rw` says whether the entry can be written.
 #[derive(Clone, Copy)]
-pub struct Row(
-    pub u32,
-    pub u8,
-    pub bool,
-    pub Accepted,
-    pub WhenBlank,
-    pub Source,
-);
+pub struct Row {
+    pub key: u32,
+    pub width: u8,
+    pub rw: bool,
+    pub accepted: Accepted,
+    pub blank: WhenBlank,
+    pub source: Source,
+}
 
-// What the list has for an index and a sub-index.
-#[derive(Clone, Copy)]
-pub enum Found {
-    At(Row),
+// Why the list has no row for an index and a sub-index.
+#[derive(Clone, Copy, PartialEq, Eq)]
+pub enum NotFound {
     NoSubIndex,
     NoIndex,
 }
@@ -88,15 +87,15 @@ pub const INHIBIT: u32 = 0x1015_00;
 
 pub const HEARTBEAT: u32 = 0x1017_00;
 
-const TPDO1_ID: u32 = 0x1800_01;
+pub const TPDO1_ID: u32 = 0x1800_01;
 
-const TPDO1_TYPE: u32 = 0x1800_02;
+pub const TPDO1_TYPE: u32 = 0x1800_02;
 
 pub const TPDO1_EVENT: u32 = 0x1800_05;
 
-const TPDO2_ID: u32 = 0x1801_01;
+pub const TPDO2_ID: u32 = 0x1801_01;
 
-const TPDO2_TYPE: u32 = 0x1801_02;
+pub const TPDO2_TYPE: u32 = 0x1801_02;
 
 pub const TPDO2_EVENT: u32 = 0x1801_05;
 
@@ -126,32 +125,28 @@ const RO: bool = false;
 
 const RW: bool = true;
 
-// No entry: it has no type.
-const NO_ROW: Row = Row(0, 0, RO, Nothing, Never, Fixed(0));
-
 // Each index has the sub-index 0: if the list has no row for that, there is no such index. The second look is a second turn of the loop,
 // so that the list is compiled once.
-pub fn find(index: u16, sub: u8) -> Found
+pub fn find(index: u16, sub: u8) -> Result<Row, NotFound>
     ensures { result ≡ lookup index sub }
 {
     let mut asked = sub;
     loop {
-        let row = row_of(key_of(index, asked));
-        if row.1 != 0 {
+        if let Some(row) = row_of(key_of(index, asked)) {
             if asked == sub {
-                return Found::At(row);
+                return Ok(row);
             }
-            return Found::NoSubIndex;
+            return Err(NotFound::NoSubIndex);
         }
         if asked == 0 {
-            return Found::NoIndex;
+            return Err(NotFound::NoIndex);
         }
         asked = 0;
     }
 }
 
 // Halves the list by its order, and looks for the key in the half that may have it.
-fn row_of(key: u32) -> Row
+fn row_of(key: u32) -> Option<Row>
     ensures { result ≡ row_of_key key }
 {
     if key < AT_1800 {
@@ -163,70 +158,84 @@ fn row_of(key: u32) -> Row
 // The list, one line for each entry, in index order: key, type, access, accepted values, when it is blank,
 // where its number comes from. Here 1000h to 1018h.
 #[tactic(auto, unfolding(crate::specs::Table::table, crate::specs::Table::row_of_key))]
-fn from_1000(k: u32) -> Row
+fn from_1000(k: u32) -> Option<Row>
     requires { k < 0x1800_00 }
     ensures { result ≡ row_of_key k }
 {
     match k {
-        0x1000_00 => Row(k, U32, RO, Nothing, Never, Fixed(0x0008_0196)),
-        0x1001_00 => Row(k, U8, RO, Nothing, Never, Register),
-        0x1003_00 => Row(k, U8, RW, Only(0), Never, ErrorCount),
-        0x1003_01 => Row(k, U32, RO, Nothing, Beyond(1), Fixed(0x5000)),
-        0x1003_02 => Row(k, U32, RO, Nothing, Beyond(2), Fixed(0x5000)),
-        0x1003_03 => Row(k, U32, RO, Nothing, Beyond(3), Fixed(0x5000)),
-        0x1003_04 => Row(k, U32, RO, Nothing, Beyond(4), Fixed(0x5000)),
-        0x1005_00 => Row(k, U32, RO, Nothing, Never, Fixed(0x80)),
-        0x1008_00 => Row(k, NAME, RO, Nothing, Never, Name(1)),
-        0x1009_00 => Row(k, NAME, RO, Nothing, Never, Name(2)),
-        0x100A_00 => Row(k, NAME, RO, Nothing, Never, Name(3)),
-        0x1010_00 => Row(k, U8, RO, Nothing, Never, Fixed(1)),
-        0x1010_01 => Row(k, U32, RW, Signature(0x6576_6173), Never, Fixed(1)),
-        0x1011_00 => Row(k, U8, RO, Nothing, Never, Fixed(1)),
-        0x1011_01 => Row(k, U32, RW, Signature(0x6461_6F6C), Never, Fixed(1)),
-        0x1014_00 => Row(k, U32, RW, EmergencyIdentifier, Never, Setting(EMERGENCY)),
-        0x1015_00 => Row(k, U16, RW, All, Never, Setting(INHIBIT)),
-        0x1017_00 => Row(k, U16, RW, All, Never, Setting(HEARTBEAT)),
-        0x1018_00 => Row(k, U8, RO, Nothing, Never, Fixed(4)),
-        0x1018_01 => Row(k, U32, RO, Nothing, Never, Vendor),
-        0x1018_02 => Row(k, U32, RO, Nothing, Never, Product),
-        0x1018_03 => Row(k, U32, RO, Nothing, Never, Revision),
-        0x1018_04 => Row(k, U32, RO, Nothing, Never, Serial),
-        _ => NO_ROW,
+        0x1000_00 => Some(line(k, U32, RO, Nothing, Never, Fixed(0x0008_0196))),
+        0x1001_00 => Some(line(k, U8, RO, Nothing, Never, Register)),
+        0x1003_00 => Some(line(k, U8, RW, Only(0), Never, ErrorCount)),
+        0x1003_01 => Some(line(k, U32, RO, Nothing, Beyond(1), Fixed(0x5000))),
+        0x1003_02 => Some(line(k, U32, RO, Nothing, Beyond(2), Fixed(0x5000))),
+        0x1003_03 => Some(line(k, U32, RO, Nothing, Beyond(3), Fixed(0x5000))),
+        0x1003_04 => Some(line(k, U32, RO, Nothing, Beyond(4), Fixed(0x5000))),
+        0x1005_00 => Some(line(k, U32, RO, Nothing, Never, Fixed(0x80))),
+        0x1008_00 => Some(line(k, NAME, RO, Nothing, Never, Name(1))),
+        0x1009_00 => Some(line(k, NAME, RO, Nothing, Never, Name(2))),
+        0x100A_00 => Some(line(k, NAME, RO, Nothing, Never, Name(3))),
+        0x1010_00 => Some(line(k, U8, RO, Nothing, Never, Fixed(1))),
+        0x1010_01 => Some(line(k, U32, RW, Signature(0x6576_6173), Never, Fixed(1))),
+        0x1011_00 => Some(line(k, U8, RO, Nothing, Never, Fixed(1))),
+        0x1011_01 => Some(line(k, U32, RW, Signature(0x6461_6F6C), Never, Fixed(1))),
+        0x1014_00 => Some(line(k, U32, RW, EmergencyIdentifier, Never, Setting(EMERGENCY))),
+        0x1015_00 => Some(line(k, U16, RW, All, Never, Setting(INHIBIT))),
+        0x1017_00 => Some(line(k, U16, RW, All, Never, Setting(HEARTBEAT))),
+        0x1018_00 => Some(line(k, U8, RO, Nothing, Never, Fixed(4))),
+        0x1018_01 => Some(line(k, U32, RO, Nothing, Never, Vendor)),
+        0x1018_02 => Some(line(k, U32, RO, Nothing, Never, Product)),
+        0x1018_03 => Some(line(k, U32, RO, Nothing, Never, Revision)),
+        0x1018_04 => Some(line(k, U32, RO, Nothing, Never, Serial)),
+        _ => None,
     }
 }
 
 // The list from 1800h on.
 #[tactic(auto, unfolding(crate::specs::Table::table, crate::specs::Table::row_of_key))]
-fn from_1800(k: u32) -> Row
+fn from_1800(k: u32) -> Option<Row>
     requires { 0x1800_00 ≤ k }
     ensures { result ≡ row_of_key k }
 {
     match k {
-        0x1800_00 => Row(k, U8, RO, Nothing, Never, Fixed(5)),
-        0x1800_01 => Row(k, U32, RW, PdoIdentifier, Never, Setting(TPDO1_ID)),
-        0x1800_02 => Row(k, U8, RW, TransmissionType, Never, Setting(TPDO1_TYPE)),
-        0x1800_05 => Row(k, U16, RW, All, Never, Setting(TPDO1_EVENT)),
-        0x1801_00 => Row(k, U8, RO, Nothing, Never, Fixed(5)),
-        0x1801_01 => Row(k, U32, RW, PdoIdentifier, Never, Setting(TPDO2_ID)),
-        0x1801_02 => Row(k, U8, RW, TransmissionType, Never, Setting(TPDO2_TYPE)),
-        0x1801_05 => Row(k, U16, RW, All, Never, Setting(TPDO2_EVENT)),
-        0x1A00_00 => Row(k, U8, RO, Nothing, Never, Fixed(1)),
-        0x1A00_01 => Row(k, U32, RO, Nothing, Never, Fixed(0x6004_0020)),
-        0x1A01_00 => Row(k, U8, RO, Nothing, Never, Fixed(1)),
-        0x1A01_01 => Row(k, U32, RO, Nothing, Never, Fixed(0x6004_0020)),
-        0x6000_00 => Row(k, U16, RW, OperatingParameters, Never, Setting(OPERATING)),
-        0x6002_00 => Row(k, U32, RW, Between(1_000, 1_000_000), Never, Setting(RANGE)),
-        0x6003_00 => Row(k, U32, RW, BelowRange, Never, Setting(PRESET)),
-        0x6004_00 => Row(k, U32, RO, Nothing, Missing, Position),
-        0x6005_00 => Row(k, U8, RO, Nothing, Never, Fixed(1)),
-        0x6005_01 => Row(k, U32, RW, Between(5_000, 1_000_000), Never, Setting(STEP)),
-        0x6200_00 => Row(k, U16, RW, All, Never, Setting(TPDO1_EVENT)),
-        0x6500_00 => Row(k, U16, RO, Nothing, Never, Status),
-        0x6501_00 => Row(k, U32, RO, Nothing, Never, Fixed(5_000)),
-        0x6503_00 => Row(k, U16, RO, Nothing, Never, Register),
-        0x6504_00 => Row(k, U16, RO, Nothing, Never, Fixed(1)),
-        0x6509_00 => Row(k, S32, RO, Nothing, Never, Offset),
-        _ => NO_ROW,
+        0x1800_00 => Some(line(k, U8, RO, Nothing, Never, Fixed(5))),
+        0x1800_01 => Some(line(k, U32, RW, PdoIdentifier, Never, Setting(TPDO1_ID))),
+        0x1800_02 => Some(line(k, U8, RW, TransmissionType, Never, Setting(TPDO1_TYPE))),
+        0x1800_05 => Some(line(k, U16, RW, All, Never, Setting(TPDO1_EVENT))),
+        0x1801_00 => Some(line(k, U8, RO, Nothing, Never, Fixed(5))),
+        0x1801_01 => Some(line(k, U32, RW, PdoIdentifier, Never, Setting(TPDO2_ID))),
+        0x1801_02 => Some(line(k, U8, RW, TransmissionType, Never, Setting(TPDO2_TYPE))),
+        0x1801_05 => Some(line(k, U16, RW, All, Never, Setting(TPDO2_EVENT))),
+        0x1A00_00 => Some(line(k, U8, RO, Nothing, Never, Fixed(1))),
+        0x1A00_01 => Some(line(k, U32, RO, Nothing, Never, Fixed(0x6004_0020))),
+        0x1A01_00 => Some(line(k, U8, RO, Nothing, Never, Fixed(1))),
+        0x1A01_01 => Some(line(k, U32, RO, Nothing, Never, Fixed(0x6004_0020))),
+        0x6000_00 => Some(line(k, U16, RW, OperatingParameters, Never, Setting(OPERATING))),
+        0x6002_00 => Some(line(k, U32, RW, Between(1_000, 1_000_000), Never, Setting(RANGE))),
+        0x6003_00 => Some(line(k, U32, RW, BelowRange, Never, Setting(PRESET))),
+        0x6004_00 => Some(line(k, U32, RO, Nothing, Missing, Position)),
+        0x6005_00 => Some(line(k, U8, RO, Nothing, Never, Fixed(1))),
+        0x6005_01 => Some(line(k, U32, RW, Between(5_000, 1_000_000), Never, Setting(STEP))),
+        0x6200_00 => Some(line(k, U16, RW, All, Never, Setting(TPDO1_EVENT))),
+        0x6500_00 => Some(line(k, U16, RO, Nothing, Never, Status)),
+        0x6501_00 => Some(line(k, U32, RO, Nothing, Never, Fixed(5_000))),
+        0x6503_00 => Some(line(k, U16, RO, Nothing, Never, Register)),
+        0x6504_00 => Some(line(k, U16, RO, Nothing, Never, Fixed(1))),
+        0x6509_00 => Some(line(k, S32, RO, Nothing, Never, Offset)),
+        _ => None,
+    }
+}
+
+// A line of the list.
+fn line(key: u32, width: u8, rw: bool, accepted: Accepted, blank: WhenBlank, source: Source) -> Row
+    ensures { result ≡ line key width rw accepted blank source }
+{
+    Row {
+        key,
+        width,
+        rw,
+        accepted,
+        blank,
+        source,
     }
 }
 
@@ -234,9 +243,8 @@ fn from_1800(k: u32) -> Row
 pub fn altered(row: Row) -> u32
     ensures { result ≡ alteredBy row }
 {
-    let source = row.5;
-    let Setting(own) = source else {
-        return row.0;
+    let Setting(own) = row.source else {
+        return row.key;
     };
     own
 }
@@ -244,5 +252,5 @@ pub fn altered(row: Row) -> u32
 pub fn key_of(index: u16, sub: u8) -> u32
     ensures { result ≡ key_of index sub }
 {
-    index as u32 * 256 + sub as u32
+    u32::from(index) * 256 + u32::from(sub)
 }

@@ -1,8 +1,7 @@
 -- What a host may ask about the head that it keeps, without changing it. 01, chapter "The head and its neighbours".
-use Rattle.std.specs.Prelude.{ℕ, eqb, Bool, true, false, not, ◌&&◌, ◌||◌}
+use Rattle.std.specs.Prelude.{ℕ, eqb, Bool, true, false, not, ◌&&◌, ◌||◌, None as Blank, Some as Number}
 use Rattle.std.proofs.Math.Option.{Option, none, some}
-use Rattle.dictionary.specs.declared.read.Shown.{Shown}
-use Rattle.dictionary.specs.declared.read.Shown.TheVariants.{Blank, Number}
+use Rattle.dictionary.specs.Shown.{Shown}
 use Rattle.parts.specs.declared.Head.{Head}
 use Rattle.waiting.specs.Line as line
 use Rattle.waiting.specs.Line.{first}

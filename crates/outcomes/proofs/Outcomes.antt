@@ -1,6 +1,10 @@
 -- Proves `Outcomes` of specs/Outcomes.antt. Assumes nothing.
 use Prim.Native.Nat.{ℕ}
 use mathlib.Core.Path.{◌≡◌, refl, sym, ap, ◌∙◌}
+use Rattle.std.specs.Prelude.{Result}
+use Rattle.dictionary.specs.declared.abort.Abort.{Abort}
+use Rattle.dictionary.specs.AbortCodes.{code_in}
+use Rattle.dictionary.proofs.AbortCodes.{one_answer}
 use Rattle.parts.specs.declared.Head.{Head}
 use Rattle.parts.specs.declared.Answer.{Answer}
 use Rattle.parts.specs.declared.Sent.{Sent}
@@ -12,6 +16,10 @@ use Rattle.outcomes.specs.Outcomes.{Outcomes, LentOutcomes}
 -- two outcomes are equal if both have the answer that is due and leave the same
 same : {A B : Type 0} {due : A} (x y : A × B) → x.1 ≡ y.1 → x.0 ≡ due → y.0 ≡ due → x ≡ y
 same x y l p q = λ i. ((p ∙ sym q) i, l i)
+
+-- the same for an answer that is given by its code
+coded_alike : {C : Type 0} {due : ℕ} (x y : Result (Unit {0}) Abort × C) → x.1 ≡ y.1 → code_in x.0 ≡ due → code_in y.0 ≡ due → x ≡ y
+coded_alike x y l p q = λ i. (one_answer x.0 y.0 (p ∙ sym q) i, l i)
 
 -- the same for a lent head: the answer and the head that is left
 answered_alike : {C : Type 0} {due : Answer} (x y : ℕ × (Head × C)) → x.1.1 ≡ y.1.1 → answered x.0 x.1.0 ≡ due → answered y.0 y.1.0 ≡ due → x ≡ y
@@ -60,8 +68,9 @@ outcomes =
       entries·table·find = λ κs a x y. same x y refl;
       entries·table·altered = λ κs a x y. same x y refl;
       entries·table·key_of = λ κs a x y. same x y refl;
-      acceptance·abort_code = λ κs a x y. same x y refl;
-      acceptance·value_abort_code = λ κs a x y. same x y refl;
+      dictionary·abort·Abort·code = λ κs a x y. same x y refl;
+      acceptance·check_write = λ κs a x y. coded_alike x y refl;
+      acceptance·check_value = λ κs a x y. coded_alike x y refl;
       acceptance·is_on = λ κs a x y. same x y refl;
       values·read = λ κs a x y. same x y refl;
       writes·write = λ κs a x y. same x y refl;

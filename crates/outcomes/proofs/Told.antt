@@ -7,8 +7,8 @@ use borrow.Author.Tests.{eqb-true, eq-eqb, not-true}
 use Rattle.cases.proofs.Cases.{both, either}
 use mathlib.Core.Option.{some}
 use Rattle.position.specs.declared.Profile.{Profile}
-use Rattle.dictionary.specs.declared.read.Shown.{Shown}
-use Rattle.dictionary.specs.declared.read.Shown.TheVariants.{Blank, Number}
+use Rattle.dictionary.specs.Shown.{Shown}
+use Rattle.std.specs.Prelude.{None as Blank, Some as Number}
 use Rattle.parts.specs.declared.Sensor.{Sensor}
 use Rattle.parts.specs.declared.Sensor.TheVariants.{Missing, Raw}
 use Rattle.entries.specs.declared.Communication.{Communication}

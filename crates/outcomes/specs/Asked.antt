@@ -14,6 +14,7 @@ use Rattle.names.specs.contracts as names
 use Rattle.waiting.specs.contracts as waiting
 use Rattle.position.specs.contracts as position
 use Rattle.entries.specs.contracts as entries
+use Rattle.dictionary.specs.contracts as dictionary
 use Rattle.acceptance.specs.contracts as acceptance
 use Rattle.values.specs.contracts as values
 use Rattle.writes.specs.contracts as writes
@@ -75,8 +76,9 @@ pub record Asked : Type 0 where
   pub entries·table·find : AsksNothingOf entries.table.find.ended (λ M 𝓤. entries.table.find.clauses) (λ M 𝓤 𝓛 m f κs a. (tt, λ g. refl))
   pub entries·table·altered : AsksNothingOf entries.table.altered.ended (λ M 𝓤. entries.table.altered.clauses) (λ M 𝓤 𝓛 m f κs a. (tt, λ g. refl))
   pub entries·table·key_of : AsksNothingOf entries.table.key_of.ended (λ M 𝓤. entries.table.key_of.clauses) (λ M 𝓤 𝓛 m f κs a. (tt, λ g. refl))
-  pub acceptance·abort_code : AsksNothingOf acceptance.abort_code.ended (λ M 𝓤. acceptance.abort_code.clauses) (λ M 𝓤 𝓛 m f κs a. (tt, λ g. refl))
-  pub acceptance·value_abort_code : AsksNothingOf acceptance.value_abort_code.ended (λ M 𝓤. acceptance.value_abort_code.clauses) (λ M 𝓤 𝓛 m f κs a. (tt, λ g. refl))
+  pub dictionary·abort·Abort·code : AsksNothingOf dictionary.abort.Abort.code.ended (λ M 𝓤. dictionary.abort.Abort.code.clauses) (λ M 𝓤 𝓛 m f κs a. (tt, λ g. refl))
+  pub acceptance·check_write : AsksNothingOf acceptance.check_write.ended (λ M 𝓤. acceptance.check_write.clauses) (λ M 𝓤 𝓛 m f κs a. (tt, λ g. refl))
+  pub acceptance·check_value : AsksNothingOf acceptance.check_value.ended (λ M 𝓤. acceptance.check_value.clauses) (λ M 𝓤 𝓛 m f κs a. (tt, λ g. refl))
   pub acceptance·is_on : AsksNothingOf acceptance.is_on.ended (λ M 𝓤. acceptance.is_on.clauses) (λ M 𝓤 𝓛 m f κs a. (tt, λ g. refl))
   pub values·read : AsksOnlyOf values.read.ended (λ κs a. ValidProfile a.0.settings.profile) (λ M 𝓤. values.read.clauses) (λ M 𝓤 𝓛 m f κs a. (tt, λ g. refl))
   pub writes·write : AsksOnlyOf writes.write.ended (λ κs a. (ValidProfile a.0.settings.profile) × (Fits a.0.settings.profile a.1.0 a.1.1.0)) (λ M 𝓤. writes.write.clauses) (λ M 𝓤 𝓛 m f κs a. (tt, λ g. refl))

@@ -12,6 +12,7 @@ use Rattle.names.specs.contracts as names
 use Rattle.waiting.specs.contracts as waiting
 use Rattle.position.specs.contracts as position
 use Rattle.entries.specs.contracts as entries
+use Rattle.dictionary.specs.contracts as dictionary
 use Rattle.acceptance.specs.contracts as acceptance
 use Rattle.values.specs.contracts as values
 use Rattle.writes.specs.contracts as writes
@@ -73,8 +74,9 @@ pub record Outcomes : Type 0 where
   pub entries·table·find : OneOutcomeOf entries.table.find.ended (λ M 𝓤. entries.table.find.clauses) (λ M 𝓤 𝓛 m f κs a g r e. refl)
   pub entries·table·altered : OneOutcomeOf entries.table.altered.ended (λ M 𝓤. entries.table.altered.clauses) (λ M 𝓤 𝓛 m f κs a g r e. refl)
   pub entries·table·key_of : OneOutcomeOf entries.table.key_of.ended (λ M 𝓤. entries.table.key_of.clauses) (λ M 𝓤 𝓛 m f κs a g r e. refl)
-  pub acceptance·abort_code : OneOutcomeOf acceptance.abort_code.ended (λ M 𝓤. acceptance.abort_code.clauses) (λ M 𝓤 𝓛 m f κs a g r e. refl)
-  pub acceptance·value_abort_code : OneOutcomeOf acceptance.value_abort_code.ended (λ M 𝓤. acceptance.value_abort_code.clauses) (λ M 𝓤 𝓛 m f κs a g r e. refl)
+  pub dictionary·abort·Abort·code : OneOutcomeOf dictionary.abort.Abort.code.ended (λ M 𝓤. dictionary.abort.Abort.code.clauses) (λ M 𝓤 𝓛 m f κs a g r e. refl)
+  pub acceptance·check_write : OneOutcomeOf acceptance.check_write.ended (λ M 𝓤. acceptance.check_write.clauses) (λ M 𝓤 𝓛 m f κs a g r e. refl)
+  pub acceptance·check_value : OneOutcomeOf acceptance.check_value.ended (λ M 𝓤. acceptance.check_value.clauses) (λ M 𝓤 𝓛 m f κs a g r e. refl)
   pub acceptance·is_on : OneOutcomeOf acceptance.is_on.ended (λ M 𝓤. acceptance.is_on.clauses) (λ M 𝓤 𝓛 m f κs a g r e. refl)
   pub values·read : OneOutcomeOf values.read.ended (λ M 𝓤. values.read.clauses) (λ M 𝓤 𝓛 m f κs a g r e. refl)
   pub writes·write : OneOutcomeOf writes.write.ended (λ M 𝓤. writes.write.clauses) (λ M 𝓤 𝓛 m f κs a g r e. refl)

@@ -1,8 +1,7 @@
 -- What a host learns when it asks about the head that it keeps, after every sequence of calls
 -- from power-up. The questions are those of `lent`. 01, chapter "The head and its neighbours".
-use Rattle.std.specs.Prelude.{ℕ, ◌≡◌, ◌↔◌, true, false, List}
+use Rattle.std.specs.Prelude.{ℕ, ◌≡◌, ◌↔◌, true, false, List, Some as Number}
 use Rattle.std.proofs.Math.Option.{some}
-use Rattle.dictionary.specs.declared.read.Shown.TheVariants.{Number}
 use Rattle.parts.specs.declared.Sensor.TheVariants.{Missing, Raw}
 use Rattle.waiting.specs.Line.{first}
 use Rattle.waiting.specs.Places.{waiting}

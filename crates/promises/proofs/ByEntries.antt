@@ -21,13 +21,12 @@ use Rattle.position.proofs.Laws.{laws as position-laws}
 use Rattle.entries.specs.declared.Device.{Device}
 use Rattle.entries.specs.declared.Reading.{Reading}
 use Rattle.entries.specs.declared.table.Row.{Row}
-use Rattle.entries.specs.declared.table.Found.{Found}
-use Rattle.entries.specs.declared.table.Found.TheVariants.{At, NoSubIndex, NoIndex}
-use Rattle.entries.specs.Table.{key_of, lookup, width}
+use Rattle.entries.specs.Table.{Found, key_of, lookup, width}
+use Rattle.std.specs.Prelude.{Ok as At, Err, Some as Number}
+use Rattle.entries.specs.declared.table.NotFound.TheVariants.{NoSubIndex, NoIndex}
 use Rattle.entries.specs.Laws.{Stands}
 use Rattle.entries.proofs.Laws.{laws as entries-laws}
-use Rattle.dictionary.specs.declared.read.Shown.{Shown}
-use Rattle.dictionary.specs.declared.read.Shown.TheVariants.{Number}
+use Rattle.dictionary.specs.Shown.{Shown}
 use Rattle.dictionary.specs.Reads.{read_of}
 use Rattle.dictionary.specs.Effects.{effects, anew}
 use Rattle.sdo.specs.Request.{index_of, sub_of, reading}
@@ -73,8 +72,8 @@ asked h f s r = found (lookup i j) refl
     found : (x : Found) → lookup i j ≡ x → read_of d o x ≡ some s
         → (r : Row) × Stands r i j × (due_to h f ≡ due_shown (width r) s)
     found (At u) q e = (u, ((entries-laws.finds i j).at u).0 q, read_due_law d o h.transfer f.bytes u r q ∙ ap (due_shown (width u)) (in_some e))
-    found NoSubIndex q e = absurd (let z : ◌≡◌ {A = ℕ} 0 1 = cc in omega arith)
-    found NoIndex q e = absurd (let z : ◌≡◌ {A = ℕ} 0 1 = cc in omega arith)
+    found (Err NoSubIndex) q e = absurd (let z : ◌≡◌ {A = ℕ} 0 1 = cc in omega arith)
+    found (Err NoIndex) q e = absurd (let z : ◌≡◌ {A = ℕ} 0 1 = cc in omega arith)
 
 -- an entry reads one number
 same : (x : Option Shown) {a b : ℕ} → x ≡ some (Number a) → x ≡ some (Number b) → a ≡ b

@@ -15,7 +15,6 @@ use Rattle.waiting.specs.Line as line
 use Rattle.waiting.specs.Line.{has}
 use Rattle.parts.specs.declared.Head.{Head}
 use Rattle.promises.specs.States.{operational, is_in, is_initialising, is_live, node, Command, no_command, to_enter, to_reset, command_of}
-use Rattle.promises.specs.WaitingLine.{sdo_reply}
 use Rattle.promises.specs.Acts.{Act, nothing, enter, reset, boot, idle, send, take, lose, time, sync, serve, acted}
 use Rattle.promises.specs.Calls.{receive, is_served, commanded, served, is_heard, is_asked, meant, step}
 use Rattle.promises.specs.Valid.{Valid}

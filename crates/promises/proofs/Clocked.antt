@@ -7,7 +7,7 @@ use mathlib.Core.List.{List}
 use Rattle.cases.specs.Tests.{within}
 use Rattle.cases.proofs.Cases.{by, by₂, test, true_false}
 use Rattle.entries.specs.declared.Communication.{Communication}
-use Rattle.entries.specs.declared.table.Found.{Found}
+use Rattle.entries.specs.Table.{Found}
 use Rattle.dictionary.specs.Accepted.{on, barred}
 use Rattle.dictionary.specs.Writes.{own_key, communication_after, put}
 use Rattle.dictionary.proofs.Own.{own_other}
@@ -23,11 +23,9 @@ use Rattle.sdo.proofs.UploadLaws.{told_in}
 use Rattle.parts.specs.declared.Timers.{Timers}
 use Rattle.parts.specs.declared.Core.{Core}
 use Rattle.parts.specs.declared.Head.{Head}
-use Rattle.promises.specs.States.{operational, stopped, pre_operational, is_in, communication}
-use Rattle.promises.specs.States.{PdoNumber, one, two, pdo, clock, uncounted}
+use Rattle.promises.specs.States.{operational, stopped, pre_operational, is_in, communication, PdoNumber, one, two, pdo, clock, uncounted}
 use Rattle.promises.specs.WaitingLine.{emergency, sdo_reply, heartbeat, tpdo}
-use Rattle.promises.specs.Timers.{synchronous, clock_synced, if_running, timers_ticked}
-use Rattle.promises.specs.Timers.{timers_synced, switched_on, clock_written, timers_written}
+use Rattle.promises.specs.Timers.{synchronous, clock_synced, if_running, timers_ticked, timers_synced, switched_on, clock_written, timers_written}
 use Rattle.promises.specs.Acts.{Act, nothing, enter, reset, boot, idle, send, take, lose, time, sync}
 use Rattle.promises.specs.Acts.{serve, uncounted_pdos, inhibited, timers_after, acted}
 use Rattle.promises.specs.Calls.{Call, is_slot, meant, step}

@@ -13,7 +13,7 @@ use Rattle.cases.proofs.Cases.{by, by₂, both, either, neither, true_false}
 use Rattle.can.specs.declared.Received.{Received}
 use Rattle.can.specs.declared.Frame.{Frame}
 use Rattle.position.specs.Profile.{highest_raw}
-use Rattle.dictionary.specs.declared.read.Shown.TheVariants.{Number}
+use Rattle.std.specs.Prelude.{Some as Number}
 use Rattle.waiting.specs.Line.{first}
 use Rattle.parts.specs.declared.Core.{Core}
 use Rattle.parts.specs.declared.Head.{Head}

@@ -10,8 +10,7 @@ use Rattle.cases.proofs.Cases.{by, by₂, neither, test}
 use Rattle.entries.specs.declared.Device.{Device}
 use Rattle.entries.specs.declared.Pdo.{Pdo}
 use Rattle.entries.specs.declared.Communication.{Communication}
-use Rattle.entries.specs.declared.table.Found.{Found}
-use Rattle.entries.specs.Table.{missing}
+use Rattle.entries.specs.Table.{Found, missing}
 use Rattle.entries.specs.Keys.{cycle_key, event_key_of, tpdo1, range_key, preset_key, step_key, heartbeat_key}
 use Rattle.dictionary.specs.Accepted.{pdo_barred, barred}
 use Rattle.dictionary.specs.Writes.{own_key, put}

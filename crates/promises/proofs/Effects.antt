@@ -10,10 +10,9 @@ use Rattle.cases.proofs.Cases.{neither}
 use Rattle.can.specs.declared.Received.{Received}
 use Rattle.names.specs.declared.Transfer.{Transfer}
 use Rattle.entries.specs.declared.Device.{Device}
-use Rattle.entries.specs.declared.table.Found.TheVariants.{At}
+use Rattle.std.specs.Prelude.{Ok as At, Some as Number}
 use Rattle.entries.specs.Table.{key_of, lookup}
-use Rattle.dictionary.specs.declared.read.Shown.{Shown}
-use Rattle.dictionary.specs.declared.read.Shown.TheVariants.{Number}
+use Rattle.dictionary.specs.Shown.{Shown}
 use Rattle.dictionary.specs.Reads.{read_of, reads}
 use Rattle.dictionary.specs.Writes.{own_key, written, put}
 use Rattle.dictionary.specs.Effects.{given, effects, anew, read_back}

@@ -14,7 +14,7 @@ use Rattle.entries.specs.declared.Device.{Device}
 use Rattle.entries.specs.declared.Reading.{Reading}
 use Rattle.entries.specs.Table.{table, lookup}
 use Rattle.entries.specs.Keys.{error_count_key}
-use Rattle.dictionary.specs.declared.read.Shown.TheVariants.{Number}
+use Rattle.std.specs.Prelude.{Some as Number}
 use Rattle.dictionary.specs.Reads.{shown}
 use Rattle.dictionary.specs.Writes.{written, put}
 use Rattle.dictionary.specs.Laws.{Shows}

@@ -15,8 +15,8 @@ use Rattle.position.specs.Position.{position}
 use Rattle.position.proofs.Laws.{laws as position-laws}
 use Rattle.entries.specs.declared.Device.{Device}
 use Rattle.entries.specs.Keys.{preset_key, operating_key, range_key, step_key}
-use Rattle.dictionary.specs.declared.read.Shown.{Shown}
-use Rattle.dictionary.specs.declared.read.Shown.TheVariants.{Blank, Number}
+use Rattle.dictionary.specs.Shown.{Shown}
+use Rattle.std.specs.Prelude.{None as Blank, Some as Number}
 use Rattle.cases.specs.Tests.{within}
 use Rattle.waiting.specs.Line.{first}
 use Rattle.waiting.specs.Places.{waiting}

@@ -19,10 +19,9 @@ use Rattle.entries.specs.declared.table.Row.{Row}
 use Rattle.entries.specs.declared.table.Accepted.TheVariants.{Nothing}
 use Rattle.entries.specs.declared.table.WhenBlank.TheVariants.{Missing as WhileMissing}
 use Rattle.entries.specs.declared.table.Source.TheVariants.{Position}
-use Rattle.entries.specs.declared.table.Found.TheVariants.{At}
+use Rattle.std.specs.Prelude.{Ok as At, None as Blank, Some as Number}
 use Rattle.entries.specs.Table.{table, width, lookup}
-use Rattle.dictionary.specs.declared.read.Shown.{Shown}
-use Rattle.dictionary.specs.declared.read.Shown.TheVariants.{Blank, Number}
+use Rattle.dictionary.specs.Shown.{Shown}
 use Rattle.dictionary.specs.Reads.{shown, reads}
 use Rattle.dictionary.specs.Laws.{Shows}
 use Rattle.dictionary.proofs.Laws.{shows}
@@ -39,8 +38,7 @@ use Rattle.promises.specs.Valid.{Valid}
 use Rattle.promises.specs.Histories.{after, PowerUp, powered}
 use Rattle.promises.specs.Service.{reply_due}
 use Rattle.promises.specs.Gap.{is_good_sample}
-use Rattle.promises.specs.Readings.{reads_in, profile_of, sample_by, last_sample, reading_of}
-use Rattle.promises.specs.Readings.{shown_position, shown_register, due_shown, Tells}
+use Rattle.promises.specs.Readings.{reads_in, profile_of, sample_by, last_sample, reading_of, shown_position, shown_register, due_shown, Tells}
 use Rattle.promises.proofs.Valid.{valid_step}
 use Rattle.promises.proofs.Altered.{Altered, heard, timed, sent, refused, took, lost, restarted, served, carried, altered}
 use Rattle.promises.proofs.Histories.{at_power_up, valid_powered}
@@ -58,7 +56,7 @@ shown_as p r = cond (not r.good) Blank (Number (position p r.raw))
 module _ (d : Device) (o : Bool) where
   -- its row
   abbrev position_row : Row
-  position_row = (0x6004_00, 4, false, Nothing, WhileMissing, Position)
+  position_row = record { key = 0x6004_00; width = 4; rw = false; accepted = Nothing; blank = WhileMissing; source = Position }
 
   position_found : lookup 0x6004 0 ≡ At position_row
   unfolding table lookup
@@ -71,7 +69,7 @@ module _ (d : Device) (o : Bool) where
   pub position_shown : reads d o 0x6004 0 ≡ some (shown_as d.settings.profile d.reading)
   position_shown = shows d o 0x6004 0 position_found position_there.0
 
-  registers_shown : let register = Number (cond (not d.reading.good) 1 0) in Shows d o 0x1001 0 register × Shows d o 0x6503 0 register
+  registers_shown : let register : Shown = Number (cond (not d.reading.good) 1 0) in Shows d o 0x1001 0 register × Shows d o 0x6503 0 register
   unfolding table lookup shown
   registers_shown = (shows d o 0x1001 0 refl refl, shows d o 0x6503 0 refl refl)
 

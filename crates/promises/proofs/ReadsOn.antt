@@ -14,8 +14,8 @@ use Rattle.entries.specs.Table.{table, key, is_rw}
 use Rattle.entries.specs.Laws.{Listed}
 use Rattle.entries.proofs.Listed.{agree}
 use Rattle.entries.specs.Keys.{error_count_key}
-use Rattle.dictionary.specs.declared.read.Shown.{Shown}
-use Rattle.dictionary.specs.declared.read.Shown.TheVariants.{Blank, Number}
+use Rattle.dictionary.specs.Shown.{Shown}
+use Rattle.std.specs.Prelude.{None as Blank, Some as Number}
 use Rattle.dictionary.specs.Reads.{shown, read_of}
 use Rattle.dictionary.specs.Effects.{read_back}
 use Rattle.sdo.specs.Request.{index_of, sub_of}

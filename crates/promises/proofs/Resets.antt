@@ -9,9 +9,9 @@ use mathlib.Core.Option.{some}
 use Rattle.can.specs.declared.Received.{Received}
 use Rattle.entries.specs.declared.Device.{Device}
 use Rattle.entries.specs.declared.Settings.{Settings}
-use Rattle.entries.specs.declared.table.Found.{Found}
-use Rattle.entries.specs.declared.table.Found.TheVariants.{At, NoSubIndex, NoIndex}
-use Rattle.entries.specs.Table.{table, index, lookup}
+use Rattle.entries.specs.Table.{Found, table, index, lookup}
+use Rattle.std.specs.Prelude.{Ok as At, Err}
+use Rattle.entries.specs.declared.table.NotFound.TheVariants.{NoSubIndex, NoIndex}
 use Rattle.entries.proofs.Listed.{agree}
 use Rattle.entries.proofs.Laws.{laws as entries-laws}
 use Rattle.entries.specs.Keys.{save_key, load_key}
@@ -59,8 +59,8 @@ module _ (d : Device) where
   found_reset i j (At q) e =
       let s = ((entries-laws.finds i j).at q).0 e in
       ap some (agree (λ r. shown now false r) (λ r. shown (due (index r)) false r) columns q s.0.0 ∙ ap (λ n. shown (due n) false q) s.0.1)
-  found_reset i j NoSubIndex e = refl
-  found_reset i j NoIndex e = refl
+  found_reset i j (Err NoSubIndex) e = refl
+  found_reset i j (Err NoIndex) e = refl
 
 reads_reset : (r : Reset) (d : Device) (i j : ℕ)
     → reads (reset_to d (restored r d.settings d.saved)) false i j ≡ reads (reset_to d (settings_for r d i)) false i j

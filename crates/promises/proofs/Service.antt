@@ -11,7 +11,6 @@ use Rattle.can.specs.Frame.{refusal_of}
 use Rattle.sdo.specs.Request.{aborting}
 use Rattle.sdo.proofs.UploadLaws.{uploads}
 use Rattle.waiting.specs.Places.{waiting}
-use Rattle.waiting.specs.Calls.{joins}
 use Rattle.parts.specs.declared.Core.{Core}
 use Rattle.parts.specs.declared.Head.{Head}
 use Rattle.promises.specs.States.{operational, is_in, is_initialising, is_live, node}

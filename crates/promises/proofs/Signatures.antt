@@ -13,7 +13,7 @@ use Rattle.entries.specs.declared.Device.{Device}
 use Rattle.entries.specs.declared.table.Row.{Row}
 use Rattle.entries.specs.declared.table.Accepted.{Accepted}
 use Rattle.entries.specs.declared.table.Accepted.TheVariants.{Nothing, Signature}
-use Rattle.entries.specs.declared.table.Found.TheVariants.{At}
+use Rattle.std.specs.Prelude.{Ok as At}
 use Rattle.entries.specs.Keys.{save_key, load_key}
 use Rattle.entries.specs.Table.{table, key, accepted, lookup}
 use Rattle.entries.specs.Laws.{Listed}

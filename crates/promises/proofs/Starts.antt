@@ -13,10 +13,9 @@ use Rattle.names.specs.declared.Transfer.{Transfer}
 use Rattle.names.specs.Transfer.{no_transfer}
 use Rattle.entries.specs.declared.Device.{Device}
 use Rattle.entries.specs.declared.Identity.{Identity}
-use Rattle.entries.specs.declared.table.Found.TheVariants.{At}
+use Rattle.std.specs.Prelude.{Ok as At, Some as Number}
 use Rattle.entries.specs.Table.{table, no_row, row_at, index, sub, width, lookup}
 use Rattle.entries.proofs.Laws.{laws as entries-laws}
-use Rattle.dictionary.specs.declared.read.Shown.TheVariants.{Number}
 use Rattle.dictionary.specs.Reads.{shown, reads}
 use Rattle.dictionary.specs.Accepted.{on}
 use Rattle.dictionary.specs.Writes.{put}
@@ -25,7 +24,6 @@ use Rattle.dictionary.proofs.Columns.{at_place}
 use Rattle.dictionary.proofs.Laws.{shows}
 use Rattle.sdo.specs.Request.{index_of}
 use Rattle.sdo.specs.Upload.{due_in}
-use Rattle.sdo.specs.Worked.{bytes}
 use Rattle.sdo.specs.declared.reply.Effect.{Effect}
 use Rattle.sdo.specs.declared.reply.Effect.TheVariants.{Nothing, Reply, Write}
 use Rattle.sdo.specs.Reply.{carried_out}

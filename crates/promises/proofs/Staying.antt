@@ -9,15 +9,14 @@ use Rattle.entries.specs.declared.Device.{Device}
 use Rattle.entries.specs.declared.Identity.{Identity}
 use Rattle.entries.specs.declared.Settings.{Settings}
 use Rattle.entries.specs.declared.table.Row.{Row}
-use Rattle.entries.specs.declared.table.Found.{Found}
-use Rattle.entries.specs.declared.table.Found.TheVariants.{At, NoSubIndex, NoIndex}
+use Rattle.entries.specs.Table.{Found, table, key, key_of, lookup}
+use Rattle.std.specs.Prelude.{Ok as At, Err, None as Blank, Some as Number}
+use Rattle.entries.specs.declared.table.NotFound.TheVariants.{NoSubIndex, NoIndex}
 use Rattle.entries.specs.Settings.{factory}
-use Rattle.entries.specs.Table.{table, key, key_of, lookup}
 use Rattle.entries.specs.Laws.{Listed}
 use Rattle.entries.specs.Keys.{save_key, load_key}
 use Rattle.entries.proofs.Laws.{laws as entries-laws}
-use Rattle.dictionary.specs.declared.read.Shown.{Shown}
-use Rattle.dictionary.specs.declared.read.Shown.TheVariants.{Blank, Number}
+use Rattle.dictionary.specs.Shown.{Shown}
 use Rattle.dictionary.specs.Laws.{Shows}
 use Rattle.dictionary.specs.Reads.{shown, read_of, reads}
 use Rattle.entries.proofs.Listed.{agree}
@@ -64,8 +63,8 @@ module _ (d e : Device) (o u : Bool) where
     found_alike i j (At w) f n =
         let s = ((entries-laws.finds i j).at w).0 f in
         ap some (shown_alike w s.0.0 (subst (λ k. has k telling ≡ false) (sym (entries-laws.keys w i j s)) n))
-    found_alike i j NoSubIndex f n = refl
-    found_alike i j NoIndex f n = refl
+    found_alike i j (Err NoSubIndex) f n = refl
+    found_alike i j (Err NoIndex) f n = refl
 
     reads_alike : (i j : ℕ) → has (key_of i j) telling ≡ false → reads d o i j ≡ reads e u i j
     reads_alike i j = found_alike i j (lookup i j) refl

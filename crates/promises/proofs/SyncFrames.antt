@@ -12,7 +12,7 @@ use Rattle.position.specs.Position as formula
 use Rattle.position.specs.Profile.{highest_raw}
 use Rattle.entries.specs.declared.Pdo.{Pdo}
 use Rattle.entries.specs.declared.Reading.{Reading}
-use Rattle.entries.specs.declared.table.Found.{Found}
+use Rattle.entries.specs.Table.{Found}
 use Rattle.dictionary.specs.Accepted.{on}
 use Rattle.dictionary.specs.Writes.{put}
 use Rattle.sdo.specs.declared.reply.Effect.{Effect}

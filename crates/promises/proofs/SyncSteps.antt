@@ -12,8 +12,8 @@ use Rattle.cases.specs.Tests.{within}
 use Rattle.cases.proofs.Cases.{test, true_false}
 use Rattle.can.specs.declared.Received.{Received}
 use Rattle.can.specs.Number.{low_first}
-use Rattle.dictionary.specs.declared.read.Shown.{Shown}
-use Rattle.dictionary.specs.declared.read.Shown.TheVariants.{Blank, Number}
+use Rattle.dictionary.specs.Shown.{Shown}
+use Rattle.std.specs.Prelude.{None as Blank, Some as Number}
 use Rattle.dictionary.specs.Accepted.{on}
 use Rattle.dictionary.specs.Writes.{own_key, put}
 use Rattle.sdo.specs.Reply.{confirmed}

@@ -7,7 +7,7 @@ use Rattle.position.specs.Laws.{Nearest}
 use Rattle.entries.specs.declared.table.Row.{Row}
 use Rattle.entries.specs.Table.{width}
 use Rattle.entries.specs.Laws.{Stands}
-use Rattle.dictionary.specs.declared.read.Shown.{Shown}
+use Rattle.dictionary.specs.Shown.{Shown}
 use Rattle.sdo.specs.Request.{index_of, sub_of, reading}
 use Rattle.parts.specs.declared.Head.{Head}
 use Rattle.parts.specs.declared.Sensor.TheVariants.{Missing, Raw}

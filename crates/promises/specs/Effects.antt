@@ -1,19 +1,17 @@
 -- What a service request does: an accepted write has exactly the effects named for it, and an aborted write changes no entry.
 -- What the entries then read is the list `effects` of crate dictionary. Which counts restart, and which kinds leave and
 -- join the line, are tests by the key of the written entry, to compare with 01's chapter "The waiting line" line by line.
-use Rattle.std.specs.Prelude.{ℕ, ◌+◌, eqb, ◌≡◌, Bool, true, false, not, ◌&&◌, ◌||◌, cond, List, [], ◌∷◌, ◌++◌, map}
-use Rattle.std.proofs.Math.Option.{none, some}
+use Rattle.std.specs.Prelude.{ℕ, eqb, ◌≡◌, Bool, true, false, not, ◌&&◌, ◌||◌, cond, List, [], ◌∷◌, ◌++◌, map, Some as Number}
+use Rattle.std.proofs.Math.Option.{some}
 use Rattle.can.specs.declared.Received.{Received}
 use Rattle.names.specs.declared.Transfer.{Transfer}
 use Rattle.names.specs.Transfer.{no_transfer}
 use Rattle.entries.specs.Table.{key_of}
-use Rattle.dictionary.specs.declared.read.Shown.TheVariants.{Number}
 use Rattle.dictionary.specs.Accepted.{on}
 use Rattle.dictionary.specs.Effects.{effects, anew, saved_by, read_back}
 use Rattle.sdo.specs.Request.{index_of, sub_of}
 use Rattle.sdo.specs.Service.{value, confirmation, abort, upload, answer}
 use Rattle.sdo.specs.Service as service
-use Rattle.sdo.specs.Worked.{bytes}
 use Rattle.waiting.specs.Line as line
 use Rattle.waiting.specs.Line.{has}
 use Rattle.waiting.specs.Places.{waiting}

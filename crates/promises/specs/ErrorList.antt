@@ -1,10 +1,9 @@
 -- The error list over any sequence of calls: 1003-0 counts good-to-missing
 -- changes since the list was emptied, at most 4. 01, chapter "Entries".
-use Rattle.std.specs.Prelude.{ℕ, suc, ◌≤◌, min, eqb, ltb, ◌≡◌, ◌↔◌, Bool, true, ◌&&◌, cond, List, [], ◌∷◌}
+use Rattle.std.specs.Prelude.{ℕ, suc, ◌≤◌, min, eqb, ltb, ◌≡◌, ◌↔◌, Bool, true, ◌&&◌, cond, List, [], ◌∷◌, None as Blank, Some as Number}
 use Rattle.std.proofs.Math.Option.{some}
 use Rattle.can.specs.declared.Received.{Received}
-use Rattle.dictionary.specs.declared.read.Shown.{Shown}
-use Rattle.dictionary.specs.declared.read.Shown.TheVariants.{Blank, Number}
+use Rattle.dictionary.specs.Shown.{Shown}
 use Rattle.parts.specs.declared.Head.{Head}
 use Rattle.parts.specs.declared.Sensor.{Sensor}
 use Rattle.parts.specs.declared.Sensor.TheVariants.{Missing, Raw}

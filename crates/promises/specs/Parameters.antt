@@ -1,9 +1,8 @@
 -- Each setting is what its entry reads, in every head. So a theorem about a setting is one about 1014h, 1015h,
 -- 1017h, sub 1, 2 or 5 of a PDO, or 6000h to 6509h. 01, chapters "Entries", "The waiting line" and "Position".
-use Rattle.std.specs.Prelude.{ℕ, ◌<◌, ◌≤◌, ◌≡◌, ◌↔◌, true}
+use Rattle.std.specs.Prelude.{ℕ, ◌<◌, ◌≤◌, ◌≡◌, ◌↔◌, true, Some as Number}
 use Rattle.std.proofs.Math.Option.{some}
 use Rattle.can.specs.Signed.{twos}
-use Rattle.dictionary.specs.declared.read.Shown.TheVariants.{Number}
 use Rattle.dictionary.specs.Accepted.{on}
 use Rattle.parts.specs.declared.Head.{Head}
 use Rattle.promises.specs.States.{communication, PdoNumber, one, two, pdo}

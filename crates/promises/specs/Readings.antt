@@ -1,6 +1,6 @@
 -- What 6004h, 1001h, 6503h and the position frames show of the samples, over any sequence of calls: demand 2's "a
 -- position is the exact result of scaling, direction, preset and range". 01, chapters "Entries" and "Position".
-use Rattle.std.specs.Prelude.{ℕ, eqb, ltb, ◌≡◌, ◌↔◌, Bool, true, false, ◌||◌, cond, List, [], ◌∷◌}
+use Rattle.std.specs.Prelude.{ℕ, eqb, ltb, ◌≡◌, ◌↔◌, Bool, true, false, ◌||◌, cond, List, [], ◌∷◌, None as Blank, Some as Number}
 use Rattle.std.proofs.Math.Option.{Option, some}
 use Rattle.can.specs.declared.Frame.{Frame}
 use Rattle.can.specs.declared.Received.{Received}
@@ -10,8 +10,7 @@ use Rattle.position.specs.declared.Profile.{Profile}
 use Rattle.position.specs.Position as formula
 use Rattle.position.specs.Laws.{Positions, Mirrors}
 use Rattle.entries.specs.declared.Reading.{Reading}
-use Rattle.dictionary.specs.declared.read.Shown.{Shown}
-use Rattle.dictionary.specs.declared.read.Shown.TheVariants.{Blank, Number}
+use Rattle.dictionary.specs.Shown.{Shown}
 use Rattle.cases.specs.Tests.{within}
 use Rattle.dictionary.specs.Reads.{reads}
 use Rattle.dictionary.specs.Writes.{rescales}

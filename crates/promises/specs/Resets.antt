@@ -1,16 +1,14 @@
 -- Save, load and the two resets: which settings each leaves, and how a head starts after a reset. 01, chapters "States" and "Entries".
-use Rattle.std.specs.Prelude.{ℕ, eqb, ltb, ◌≡◌, Bool, true, false, not, ◌&&◌, ◌||◌, cond, List, [], ◌∷◌, ◌⊎◌}
+use Rattle.std.specs.Prelude.{ℕ, eqb, ltb, ◌≡◌, Bool, true, false, not, ◌&&◌, ◌||◌, cond, List, [], ◌∷◌, ◌⊎◌, Some as Number}
 use Rattle.std.proofs.Math.Option.{some}
 use Rattle.can.specs.declared.Received.{Received}
 use Rattle.entries.specs.declared.Device.{Device}
 use Rattle.entries.specs.declared.Settings.{Settings}
 use Rattle.entries.specs.Settings.{factory}
-use Rattle.dictionary.specs.declared.read.Shown.TheVariants.{Number}
 use Rattle.dictionary.specs.Accepted.{on}
 use Rattle.dictionary.specs.Reads.{reads}
 use Rattle.dictionary.specs.Effects.{read_back}
 use Rattle.sdo.specs.Request.{index_of, sub_of}
-use Rattle.sdo.specs.Worked.{bytes}
 use Rattle.waiting.specs.Line as line
 use Rattle.waiting.specs.Places.{waiting}
 use Rattle.parts.specs.declared.Core.{Core}

@@ -1,14 +1,13 @@
 -- What power-up leaves, "It starts in Initialising with factory settings, the saved set equal to them, the reading
 -- missing, the error list empty", and which of it no call changes. 01, chapters "States", "Refusal numbers" and "Entries".
-use Rattle.std.specs.Prelude.{ℕ, ◌+◌, replicate, ◌≡◌, cond, ◌⊎◌, List, [], ◌∷◌, ◌++◌, map}
+use Rattle.std.specs.Prelude.{ℕ, ◌+◌, replicate, ◌≡◌, cond, ◌⊎◌, List, [], ◌∷◌, ◌++◌, map, None as Blank, Some as Number}
 use Rattle.std.proofs.Math.Option.{some}
 use Rattle.can.specs.declared.Received.{Received}
 use Rattle.can.specs.Number.{low_first}
 use Rattle.names.specs.declared.Name.{Name}
 use Rattle.entries.specs.declared.Identity.{Identity}
 use Rattle.entries.specs.Table.{table, index, sub, width}
-use Rattle.dictionary.specs.declared.read.Shown.{Shown}
-use Rattle.dictionary.specs.declared.read.Shown.TheVariants.{Blank, Number}
+use Rattle.dictionary.specs.Shown.{Shown}
 use Rattle.promises.specs.States.{Reset, restored, to_reset}
 use Rattle.promises.specs.Calls.{Call, slot, step, receive}
 use Rattle.promises.specs.Meant.{Commands, Requests, due_to}

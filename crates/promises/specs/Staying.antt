@@ -1,11 +1,10 @@
 -- What entries read later, for all entries and every list of calls: what only an accepted write or a reset changes, and
 -- what "save", "load" and the two resets leave, from what each entry read before. 01, chapters "Entries" and "States".
-use Rattle.std.specs.Prelude.{ℕ, ◌+◌, eqb, ◌≡◌, false, cond, List, [], ◌∷◌}
+use Rattle.std.specs.Prelude.{ℕ, ◌+◌, eqb, ◌≡◌, false, cond, List, [], ◌∷◌, Some as Number}
 use Rattle.std.proofs.Math.Option.{Option, some}
 use Rattle.can.specs.declared.Received.{Received}
 use Rattle.entries.specs.Table.{key_of}
-use Rattle.dictionary.specs.declared.read.Shown.{Shown}
-use Rattle.dictionary.specs.declared.read.Shown.TheVariants.{Number}
+use Rattle.dictionary.specs.Shown.{Shown}
 use Rattle.sdo.specs.Worked.{bytes}
 use Rattle.waiting.specs.Line.{has}
 use Rattle.parts.specs.declared.Head.{Head}

@@ -1,13 +1,12 @@
 -- "A SYNC frame belongs to its SYNC" (2/13), for every list of calls from power-up. SYNCs are counted from the calls, as in
 -- specs/Moments.antt; the positions that the head has fixed are not read.
-use Rattle.std.specs.Prelude.{ℕ, eqb, leb, ◌≡◌, Bool, true, false, not, ◌&&◌, ◌||◌, cond, List, [], ◌∷◌, ◌++◌}
+use Rattle.std.specs.Prelude.{ℕ, eqb, leb, ◌≡◌, Bool, true, false, not, ◌&&◌, ◌||◌, cond, List, [], ◌∷◌, ◌++◌, Some as Number}
 use Rattle.std.proofs.Math.Option.{some}
 use Rattle.can.specs.declared.Frame.{Frame}
 use Rattle.can.specs.declared.Received.{Received}
 use Rattle.can.specs.Number.{low_first}
 use Rattle.position.specs.Position as formula
 use Rattle.dictionary.specs.Accepted.{on}
-use Rattle.dictionary.specs.declared.read.Shown.TheVariants.{Number}
 use Rattle.parts.specs.declared.Sensor.TheVariants.{Missing, Raw}
 use Rattle.promises.specs.States.{operational, is_in, PdoNumber}
 use Rattle.promises.specs.Timers.{OnEvents, OnSyncs}

@@ -6,7 +6,7 @@ ghost use Rattle.std.specs.Prelude.{◌≡◌};
 ghost use Rattle.sdo.specs.Reply.{framed as framedBy, command, no_reply, aborted, confirmed, segmented, shown_reply};
 
 use can::Bytes;
-use dictionary::read::Shown;
+use dictionary::abort::Abort;
 use names::Transfer;
 use sdo::reply::{Effect, Served};
 
@@ -23,8 +23,6 @@ const READ_4_BYTES: u8 = 0x43;
 // The size is announced, and segments follow.
 const READ_NAME: u8 = 0x41;
 
-const NO_DATA: u32 = 0x0800_0024;
-
 pub fn no_reply() -> Served
     ensures { result ≡ no_reply }
 {
@@ -38,9 +36,8 @@ pub fn no_reply() -> Served
 pub fn abort(request: Bytes, code: u32) -> Served
     ensures { result ≡ aborted request code }
 {
-    let bytes = framed(ABORT, request, code);
     Served {
-        bytes: bytes,
+        bytes: framed(ABORT, request, code),
         effect: Effect::Reply,
         transfer: Transfer::NONE,
     }
@@ -49,23 +46,22 @@ pub fn abort(request: Bytes, code: u32) -> Served
 pub fn confirm(request: Bytes, key: u32, value: u32) -> Served
     ensures { result ≡ confirmed request key value }
 {
-    let bytes = framed(CONFIRMATION, request, 0);
     Served {
-        bytes: bytes,
+        bytes: framed(CONFIRMATION, request, 0),
         effect: Effect::Write { key, value },
         transfer: Transfer::NONE,
     }
 }
 
-pub fn shown(request: Bytes, width: u8, entry: Shown) -> Served
+// What the entry reads; `None` is blank.
+pub fn shown(request: Bytes, width: u8, entry: Option<u32>) -> Served
     ensures { result ≡ shown_reply request width entry }
 {
-    let Shown::Number(number) = entry else {
-        return abort(request, NO_DATA);
+    let Some(number) = entry else {
+        return abort(request, Abort::Blank.code());
     };
-    let bytes = framed(command_for(width), request, number);
     Served {
-        bytes: bytes,
+        bytes: framed(command_for(width), request, number),
         effect: Effect::Reply,
         transfer: names::started(can::word(request[1], request[2])),
     }
@@ -85,16 +81,12 @@ pub fn segment(bytes: Bytes, transfer: Transfer) -> Served
 fn command_for(width: u8) -> u8
     ensures { result ≡ command width }
 {
-    if width == 1 {
-        return READ_1_BYTE;
+    match width {
+        1 => READ_1_BYTE,
+        2 => READ_2_BYTES,
+        4 => READ_4_BYTES,
+        _ => READ_NAME,
     }
-    if width == 2 {
-        return READ_2_BYTES;
-    }
-    if width == 4 {
-        return READ_4_BYTES;
-    }
-    READ_NAME
 }
 
 fn framed(first: u8, request: Bytes, content: u32) -> Bytes

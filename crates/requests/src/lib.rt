@@ -3,10 +3,10 @@
 #![tactic(auto)]
 
 ghost use Rattle.std.specs.Prelude.{◌≡◌};
-ghost use Rattle.sdo.specs.Request.{is_abort, is_segment, toggle_in, index_of, data_of, said_length, taken_apart};
+ghost use Rattle.sdo.specs.Request.{is_abort, is_segment, toggle_in, index_of, data_of, said_length, access_in, taken_apart};
 
 use can::Bytes;
-use sdo::request::{Access, Ask, Request};
+use sdo::request::{Access, Ask};
 
 // Byte 0: the command in the top three bits; in a write bit 1 says expedited, bit 0 that bits 3..2 tell the length.
 const READ: u8 = 2;
@@ -36,29 +36,32 @@ pub fn toggle(command: u8) -> u8
     command / 16 % 2
 }
 
-pub fn taken_apart(bytes: Bytes) -> Request
+// What the request asks; `None` is an unknown command.
+pub fn taken_apart(bytes: Bytes) -> Option<Ask>
     ensures { result ≡ taken_apart bytes }
 {
+    let access = access_in(bytes)?;
+    Some(Ask {
+        index: index_of(bytes),
+        sub: bytes[3],
+        access,
+    })
+}
+
+fn access_in(bytes: Bytes) -> Option<Access>
+    ensures { result ≡ access_in bytes }
+{
     let command = bytes[0];
-    let index = index_of(bytes);
-    let sub = bytes[3];
     if command / 32 == READ {
-        return Request::Asked(Ask {
-            index: index,
-            sub: sub,
-            access: Access::Read,
+        return Some(Access::Read);
+    }
+    if command / 32 == WRITE && command / 2 % 2 == 1 {
+        return Some(Access::Write {
+            length: said_length(command),
+            content: data_of(bytes),
         });
     }
-    if (command / 32 == WRITE) & (command / 2 % 2 == 1) {
-        let length = said_length(command);
-        let content = data_of(bytes);
-        return Request::Asked(Ask {
-            index: index,
-            sub: sub,
-            access: Access::Write { length, content },
-        });
-    }
-    Request::UnknownCommand
+    None
 }
 
 fn index_of(bytes: Bytes) -> u16

@@ -10,13 +10,13 @@ use Rattle.cases.specs.Padded.{pad}
 use Rattle.entries.specs.declared.Reading.{Reading}
 use Rattle.entries.specs.declared.Settings.{Settings}
 use Rattle.entries.specs.declared.table.Row.{Row}
-use Rattle.entries.specs.declared.table.Found.TheVariants.{At}
+use Rattle.std.specs.Prelude.{Ok as At}
 use Rattle.entries.specs.Settings.{pdo, factory}
 use Rattle.entries.specs.Table.{table, lookup}
 use Rattle.dictionary.specs.Accepted.{abort_code}
 use Rattle.dictionary.specs.Reads.{shown}
 use Rattle.dictionary.specs.Writes.{put}
-use Rattle.dictionary.specs.Worked.{save, load, writes as allWrites}
+use Rattle.dictionary.specs.Worked.{save, load, writes as allWrites, identity1}
 use Rattle.sdo.specs.Request.{index_of, sub_of}
 use Rattle.sdo.specs.Service.{confirmation, due_of, due}
 use Rattle.sdo.specs.Upload.{due_in}
@@ -24,16 +24,14 @@ use Rattle.sdo.specs.Worked.{bytes}
 use Rattle.waiting.specs.Line.{places}
 use Rattle.parts.specs.declared.Head.{Head}
 use Rattle.parts.specs.declared.Sensor.TheVariants.{Raw}
-use Rattle.promises.specs.States.{pre_operational, state, at_rest}
+use Rattle.promises.specs.States.{pre_operational, state, at_rest, unfixed}
 use Rattle.names.specs.Transfer.{no_transfer}
 use Rattle.promises.specs.Acts.{settled_to, act}
 use Rattle.promises.specs.Calls.{Call, sample, slot}
 use Rattle.promises.specs.Meant.{Requests, due_to}
 use Rattle.promises.specs.Histories.{after}
-use Rattle.dictionary.specs.Worked.{identity1}
 use Rattle.promises.specs.Node1.{node1, to_node1, writes}
 use Rattle.runs.specs.Effects.{ready, writing, Met, MetWhenReady}
-use Rattle.promises.specs.States.{unfixed}
 use Rattle.runs.proofs.Node1.{reached}
 
 -- Node 1, Pre-operational, with that reading, that announced, these settings and that last reply; nothing waits.

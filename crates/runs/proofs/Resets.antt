@@ -12,7 +12,7 @@ use Rattle.can.specs.declared.Received.{Received}
 use Rattle.entries.specs.declared.Settings.{Settings}
 use Rattle.entries.specs.Settings.{pdo, factory}
 use Rattle.entries.specs.Table.{table, lookup}
-use Rattle.dictionary.specs.declared.read.Shown.TheVariants.{Number}
+use Rattle.std.specs.Prelude.{Some as Number}
 use Rattle.dictionary.specs.Reads.{shown}
 use Rattle.dictionary.specs.Writes.{put}
 use Rattle.dictionary.specs.Worked.{save, load}

@@ -1,8 +1,7 @@
 -- Five losses, of which 1003h keeps four, and an emptied list. This run meets
 -- the conditions of `ErrorList` of crate promises. 01, chapter "Entries".
-use Rattle.std.specs.Prelude.{◌≡◌, List, [], ◌∷◌, ◌++◌}
+use Rattle.std.specs.Prelude.{◌≡◌, List, [], ◌∷◌, ◌++◌, None as Blank, Some as Number}
 use Rattle.std.proofs.Math.Option.{some}
-use Rattle.dictionary.specs.declared.read.Shown.TheVariants.{Blank, Number}
 use Rattle.sdo.specs.Worked.{bytes}
 use Rattle.parts.specs.declared.Sensor.TheVariants.{Missing, Raw}
 use Rattle.promises.specs.Calls.{Call, sample, slot}

@@ -1,8 +1,7 @@
 -- A position that is set, kept and shown. This run meets the conditions of `Readings` of crate promises. 01, chapter "Position".
-use Rattle.std.specs.Prelude.{ℕ, ◌≡◌, true, List, [], ◌∷◌, ◌++◌}
+use Rattle.std.specs.Prelude.{ℕ, ◌≡◌, true, List, [], ◌∷◌, ◌++◌, None as Blank, Some as Number}
 use Rattle.std.proofs.Math.Option.{some}
 use Rattle.cases.specs.Tests.{within}
-use Rattle.dictionary.specs.declared.read.Shown.TheVariants.{Blank, Number}
 use Rattle.sdo.specs.Worked.{bytes}
 use Rattle.parts.specs.declared.Sensor.TheVariants.{Raw}
 use Rattle.promises.specs.Calls.{Call, sample, slot, tick, slot_answer, is_frame, frame_in}

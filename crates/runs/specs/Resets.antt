@@ -1,9 +1,8 @@
 -- "save" and "load", followed by other calls and a reset. These runs meet the
 -- conditions of `Resets` of crate promises. 01, chapters "States" and "Entries".
-use Rattle.std.specs.Prelude.{ℕ, ◌≡◌, List, [], ◌∷◌, ◌++◌}
+use Rattle.std.specs.Prelude.{ℕ, ◌≡◌, List, [], ◌∷◌, ◌++◌, Some as Number}
 use Rattle.std.proofs.Math.Option.{some}
 use Rattle.can.specs.declared.Received.{Received}
-use Rattle.dictionary.specs.declared.read.Shown.TheVariants.{Number}
 use Rattle.dictionary.specs.Worked.{save, load}
 use Rattle.sdo.specs.Worked.{bytes}
 use Rattle.parts.specs.declared.Head.{Head}

@@ -1,8 +1,7 @@
 -- A setting that a reset restores, and a node number that is refused. They meet the
 -- conditions of `Starts` of crate promises. 01, chapters "States" and "Refusal numbers".
-use Rattle.std.specs.Prelude.{◌≡◌}
+use Rattle.std.specs.Prelude.{◌≡◌, Some as Number}
 use Rattle.std.proofs.Math.Option.{some}
-use Rattle.dictionary.specs.declared.read.Shown.TheVariants.{Number}
 use Rattle.promises.specs.States.{of_node, to_reset}
 use Rattle.promises.specs.Calls.{receive, step}
 use Rattle.promises.specs.Meant.{Commands}

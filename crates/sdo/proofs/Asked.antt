@@ -5,9 +5,8 @@ use mathlib.Core.Path.{◌≡◌, sym, ap, ◌∙◌}
 use mathlib.Core.List.{List}
 use lib.ListN.{get_or}
 use Rattle.entries.specs.declared.table.Row.{Row}
-use Rattle.entries.specs.declared.table.Found.{Found}
-use Rattle.entries.specs.declared.table.Found.TheVariants.{At}
-use Rattle.entries.specs.Table.{lookup}
+use Rattle.entries.specs.Table.{Found, lookup}
+use Rattle.std.specs.Prelude.{Ok as At}
 use Rattle.entries.specs.Laws.{Finds}
 use Rattle.entries.proofs.Laws.{laws}
 use Rattle.sdo.specs.Request.{index_of, sub_of}

@@ -9,12 +9,11 @@ use lib.Dec.{eqb, ltb}
 use borrow.Author.Tests.{eqb-true, ne_eqb, le-ltb}
 use Rattle.cases.proofs.Cases.{true_false}
 use Rattle.entries.specs.declared.Device.{Device}
-use Rattle.entries.specs.declared.table.Found.{Found}
-use Rattle.entries.specs.declared.table.Found.TheVariants.{At, NoSubIndex, NoIndex}
-use Rattle.entries.specs.Table.{key, width, is_rw, accepted, lookup}
+use Rattle.entries.specs.Table.{Found, key, width, is_rw, accepted, lookup}
+use Rattle.std.specs.Prelude.{Ok as At, Err, None as Blank, Some as Number}
+use Rattle.entries.specs.declared.table.NotFound.TheVariants.{NoSubIndex, NoIndex}
 use Rattle.entries.proofs.Laws.{laws as entries-laws}
-use Rattle.dictionary.specs.declared.read.Shown.{Shown}
-use Rattle.dictionary.specs.declared.read.Shown.TheVariants.{Blank, Number}
+use Rattle.dictionary.specs.Shown.{Shown}
 use Rattle.dictionary.specs.Reads.{shown}
 use Rattle.dictionary.specs.Accepted.{accepts_in, is_signature, barred, abort_code}
 use Rattle.dictionary.specs.Writes.{own_key}
@@ -79,11 +78,11 @@ module _ (d : Device) (o : Bool) (f : List ℕ) (n : aborting f ≡ false) where
       → reply_to d o f (taken_apart f) ≡ answer f (due_of d o f x)
   unfolding write_code abort_code
   by_found x true true a b q = true_false (sym b ∙ not_both (byte f 0 / 32) _ a)
-  by_found NoIndex true false a b q = rw (n, a, q)
-  by_found NoSubIndex true false a b q = rw (n, a, q)
+  by_found (Err NoIndex) true false a b q = rw (n, a, q)
+  by_found (Err NoSubIndex) true false a b q = rw (n, a, q)
   by_found (At r) true false a b q = rw (n, a, b, q) (read_due_law f (width r) (shown d o r))
-  by_found NoIndex false true a b q = rw (n, a, b, q)
-  by_found NoSubIndex false true a b q = rw (n, a, b, q)
+  by_found (Err NoIndex) false true a b q = rw (n, a, b, q)
+  by_found (Err NoSubIndex) false true a b q = rw (n, a, b, q)
   by_found (At r) false true a b q =
       let w = width r in
       let v = cut_to w (data_of f) in

@@ -14,8 +14,8 @@ use Rattle.entries.specs.declared.Device.{Device}
 use Rattle.entries.specs.declared.table.Row.{Row}
 use Rattle.entries.specs.Table.{key, width, is_rw, accepted}
 use Rattle.entries.specs.Laws.{Listed}
-use Rattle.dictionary.specs.declared.read.Shown.{Shown}
-use Rattle.dictionary.specs.declared.read.Shown.TheVariants.{Blank, Number}
+use Rattle.dictionary.specs.Shown.{Shown}
+use Rattle.std.specs.Prelude.{None as Blank, Some as Number}
 use Rattle.dictionary.specs.Reads.{shown}
 use Rattle.dictionary.specs.Accepted.{accepts_in, is_signature, barred}
 use Rattle.sdo.specs.Request.{data_of}

@@ -6,18 +6,17 @@ use mathlib.Core.Logic.{◌↔◌, inl, inr}
 use mathlib.Core.Bool.{Bool, true, false, not, cond}
 use mathlib.Core.List.{List, ◌∷◌, ◌++◌}
 use lib.Dec.{eqb}
-use lib.ListN.{length, get_or, drop, replicate}
+use lib.ListN.{get_or, drop, replicate}
 use borrow.Author.Tests.{eqb-true, ne_eqb, le-ltb, not-false}
 use Rattle.cases.proofs.Cases.{by, test, true_false, both, first_each, ◌▸◌, end}
 use Rattle.can.specs.Number.{low_first}
 use Rattle.can.proofs.Number.{numbers}
 use Rattle.entries.specs.declared.Device.{Device}
 use Rattle.entries.specs.declared.table.Row.{Row}
-use Rattle.entries.specs.declared.table.Found.{Found}
-use Rattle.entries.specs.declared.table.Found.TheVariants.{At, NoSubIndex, NoIndex}
-use Rattle.entries.specs.Table.{key, width, when_blank, source, blank_in, number_of, lookup}
+use Rattle.entries.specs.Table.{Found, key, width, when_blank, source, blank_in, number_of, lookup}
+use Rattle.std.specs.Prelude.{Ok as At, Err, None as Blank, Some as Number}
+use Rattle.entries.specs.declared.table.NotFound.TheVariants.{NoSubIndex, NoIndex}
 use Rattle.entries.specs.Laws.{Listed}
-use Rattle.dictionary.specs.declared.read.Shown.TheVariants.{Blank, Number}
 use Rattle.dictionary.specs.Reads.{shown}
 use Rattle.dictionary.specs.Writes.{own_key}
 use Rattle.dictionary.specs.Valid.{ValidDevice}
@@ -210,8 +209,8 @@ module _ (d : Device) (o : Bool) (f g : List ℕ) (l : Alike f g) where
 
   same_due : (x : Found) (r w : Bool) → reading f ≡ r → writing f ≡ w → lookup (index_of f) (sub_of f) ≡ x → due_of d o f x ≡ due_of d o g x
   same_due (At u) true true p q s = true_false (sym q ∙ (is_read f p).1)
-  same_due NoIndex r w p q s = rw (← same_aborting, ← same_reading, ← same_writing)
-  same_due NoSubIndex r w p q s = rw (← same_aborting, ← same_reading, ← same_writing)
+  same_due (Err NoIndex) r w p q s = rw (← same_aborting, ← same_reading, ← same_writing)
+  same_due (Err NoSubIndex) r w p q s = rw (← same_aborting, ← same_reading, ← same_writing)
   same_due (At u) true false p q s = rw (← same_aborting, ← same_reading, ← same_writing, p, q)
   same_due (At u) false true p q s =
       let t = eqb-true (top f) 1 (both (eqb (top f) 1) (eqb (byte f 0 / 2 % 2) 1) q).0 in

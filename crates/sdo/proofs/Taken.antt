@@ -12,10 +12,9 @@ use Rattle.cases.proofs.Cases.{test, true_false, both}
 use Rattle.can.specs.Number.{number}
 use Rattle.sdo.specs.declared.request.Access.TheVariants.{Read, Write}
 use Rattle.sdo.specs.declared.request.Ask.{Ask}
-use Rattle.sdo.specs.declared.request.Request.{Request}
-use Rattle.sdo.specs.declared.request.Request.TheVariants.{Asked, UnknownCommand}
+use Rattle.sdo.specs.Request.{Request, access_top, reading, writing, said_length, taken_apart}
+use Rattle.std.specs.Prelude.{Some as Asked, None as UnknownCommand}
 use Rattle.sdo.specs.AbortCodes.{request_code}
-use Rattle.sdo.specs.Request.{access_top, reading, writing, said_length, taken_apart}
 use Rattle.sdo.specs.Exactly.{Reads, Writes, first_data}
 use Rattle.sdo.specs.Taken.{asks, Taken}
 use Rattle.sdo.proofs.Asked.{index_is}

@@ -10,11 +10,10 @@ use borrow.Author.Tests.{ltb-false, not-false}
 use Rattle.cases.proofs.Cases.{by}
 use Rattle.entries.specs.declared.Device.{Device}
 use Rattle.entries.specs.declared.table.Row.{Row}
-use Rattle.entries.specs.declared.table.Found.TheVariants.{At}
+use Rattle.std.specs.Prelude.{Ok as At, None as Blank, Some as Number}
 use Rattle.entries.specs.Table.{key, width, is_rw, accepted, lookup}
 use Rattle.entries.specs.Laws.{Listed}
-use Rattle.dictionary.specs.declared.read.Shown.{Shown}
-use Rattle.dictionary.specs.declared.read.Shown.TheVariants.{Blank, Number}
+use Rattle.dictionary.specs.Shown.{Shown}
 use Rattle.dictionary.specs.Reads.{shown}
 use Rattle.dictionary.specs.Accepted.{accepts_in, is_signature, barred, abort_code}
 use Rattle.sdo.specs.Request.{index_of, sub_of, data_of, writing}

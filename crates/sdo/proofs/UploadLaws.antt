@@ -13,12 +13,12 @@ use Rattle.names.specs.Transfer.{no_transfer, starting, low_byte}
 use Rattle.names.proofs.Laws.{laws as nameLaws}
 use Rattle.entries.specs.declared.Device.{Device}
 use Rattle.entries.specs.declared.table.Row.{Row}
-use Rattle.entries.specs.declared.table.Found.TheVariants.{At, NoSubIndex}
+use Rattle.std.specs.Prelude.{Ok as At, Err, Some as Number}
+use Rattle.entries.specs.declared.table.NotFound.TheVariants.{NoSubIndex}
 use Rattle.entries.specs.Identity.{name_of}
 use Rattle.entries.specs.Table.{table, width, is_rw, lookup}
 use Rattle.entries.specs.Laws.{Stands}
 use Rattle.entries.proofs.Laws.{laws as entries-laws}
-use Rattle.dictionary.specs.declared.read.Shown.TheVariants.{Number}
 use Rattle.dictionary.specs.Reads.{shown}
 use Rattle.dictionary.specs.Valid.{ValidDevice}
 use Rattle.sdo.specs.Request.{byte, index_of, sub_of, aborting}
@@ -78,7 +78,7 @@ names d o =
     (named d o 3 _ refl refl refl refl refl refl)
 
 -- an entry with a name's index has sub-index 0
-found_zero : (j : ℕ) (r q : Row) (b : Bool) → eqb 0 j ≡ b → cond b (At q) NoSubIndex ≡ At r → j ≡ 0
+found_zero : (j : ℕ) (r q : Row) (b : Bool) → eqb 0 j ≡ b → cond b (At q) (Err NoSubIndex) ≡ At r → j ≡ 0
 found_zero j r q true e h = sym (eqb-true 0 j e)
 found_zero j r q false e h = absurd (let z : ◌≡◌ {A = ℕ} 0 1 = cc in omega arith)
 

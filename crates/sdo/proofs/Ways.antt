@@ -13,9 +13,9 @@ use Rattle.cases.specs.Cases.{first_of}
 use Rattle.cases.proofs.Cases.{test}
 use Rattle.entries.specs.declared.Device.{Device}
 use Rattle.entries.specs.declared.table.Row.{Row}
-use Rattle.entries.specs.declared.table.Found.{Found}
-use Rattle.entries.specs.declared.table.Found.TheVariants.{At, NoSubIndex, NoIndex}
-use Rattle.entries.specs.Table.{key, width, is_rw, accepted}
+use Rattle.entries.specs.Table.{Found, key, width, is_rw, accepted}
+use Rattle.std.specs.Prelude.{Ok as At, Err}
+use Rattle.entries.specs.declared.table.NotFound.TheVariants.{NoSubIndex, NoIndex}
 use Rattle.dictionary.specs.Reads.{shown}
 use Rattle.dictionary.specs.Accepted.{accepts_in, is_signature, barred}
 use Rattle.sdo.specs.Request.{data_of}
@@ -77,8 +77,8 @@ module _ (d : Device) (o : Bool) (f : List ℕ) where
       (read : (r : Row) → ReadsFrom f r → P (read_due r))
       (written : (r : Row) → WritesTo f r → P (write_due r (cut_to (width r) (data_of f)))) where
     by_found : Reads f ⊎ Writes f → (x : Found) → asked f ≡ x → P (due d o f)
-    by_found k NoIndex e = let h : NoSuchIndex f = (k, (finds f).no_index.0 e) in subst P (sym (no_index h)) (no-indices h)
-    by_found k NoSubIndex e =
+    by_found k (Err NoIndex) e = let h : NoSuchIndex f = (k, (finds f).no_index.0 e) in subst P (sym (no_index h)) (no-indices h)
+    by_found k (Err NoSubIndex) e =
         let h : NoSuchSubIndex f = (k, (finds f).no_sub_index.0 e) in subst P (sym (no_sub_index h)) (no-sub-indices h)
     by_found (inl a) (At r) e = let h : ReadsFrom f r = (a, ((finds f).at r).0 e) in subst P (sym (reads r h)) (read r h)
     by_found (inr a) (At r) e = let h : WritesTo f r = (a, ((finds f).at r).0 e) in subst P (sym (writes r h)) (written r h)

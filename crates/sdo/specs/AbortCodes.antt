@@ -1,12 +1,10 @@
 -- The abort codes of steps 1 to 4 and 7 of "First that applies" in 01, chapter "Service requests".
 -- Where an answer is an enum, a definition gives the code of each of its cases, 0 for none.
-use Rattle.std.specs.Prelude.{ℕ}
-use Rattle.entries.specs.declared.table.Found.{Found}
-use Rattle.entries.specs.declared.table.Found.TheVariants.{At, NoSubIndex, NoIndex}
-use Rattle.dictionary.specs.declared.read.Shown.{Shown}
-use Rattle.dictionary.specs.declared.read.Shown.TheVariants.{Blank, Number}
-use Rattle.sdo.specs.declared.request.Request.{Request}
-use Rattle.sdo.specs.declared.request.Request.TheVariants.{Asked, UnknownCommand}
+use Rattle.std.specs.Prelude.{ℕ, Ok as At, Err, None as Blank, Some as Number, Some as Asked, None as UnknownCommand}
+use Rattle.entries.specs.Table.{Found}
+use Rattle.entries.specs.declared.table.NotFound.TheVariants.{NoSubIndex, NoIndex}
+use Rattle.dictionary.specs.Shown.{Shown}
+use Rattle.sdo.specs.Request.{Request}
 
 -- 1. 0504 0001h: other top bits, or a write with bit 1 clear
 abbrev pub request_code : Request → ℕ
@@ -19,8 +17,8 @@ wrong_toggle = 0x05030000
 
 -- 2. 0602 0000h no such index; 0609 0011h no such sub-index
 abbrev pub found_code : Found → ℕ
-found_code NoIndex = 0x06020000
-found_code NoSubIndex = 0x06090011
+found_code (Err NoIndex) = 0x06020000
+found_code (Err NoSubIndex) = 0x06090011
 found_code (At r) = 0
 
 -- 3. 0601 0002h: write to ro

@@ -6,7 +6,7 @@ use Rattle.entries.specs.declared.Device.{Device}
 use Rattle.entries.specs.declared.table.Row.{Row}
 use Rattle.entries.specs.Table.{key, width, is_rw}
 use Rattle.entries.specs.Laws.{HasIndex, Stands}
-use Rattle.dictionary.specs.declared.read.Shown.TheVariants.{Blank, Number}
+use Rattle.std.specs.Prelude.{None as Blank, Some as Number}
 use Rattle.dictionary.specs.Reads.{shown}
 use Rattle.dictionary.specs.Accepted.{accepts_in, barred}
 use Rattle.sdo.specs.Service.{Due, none, value, confirmation, abort}

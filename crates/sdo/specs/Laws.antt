@@ -1,14 +1,12 @@
 -- Laws for every request to every device: when each reply is due, what a value and a confirmation tell, the bytes of the
 -- reply, and what a request leaves unchanged. Bytes are given by place and number, as in 01, chapter "Service requests".
-use Rattle.std.specs.Prelude.{ℕ, ◌-◌, ◌/◌, ◌%◌, ◌≤◌, get_or, drop, replicate, ◌≡◌, ◌↔◌, ◌⊎◌, Bool, true, false, not, List, ◌∷◌, ◌++◌}
+use Rattle.std.specs.Prelude.{ℕ, ◌-◌, ◌/◌, ◌%◌, ◌≤◌, get_or, drop, replicate, ◌≡◌, ◌↔◌, ◌⊎◌, Bool, true, false, not, List, ◌∷◌, ◌++◌, Ok as At}
 use Rattle.can.specs.Number.{low_first, AreBytes}
 use Rattle.entries.specs.declared.Device.{Device}
 use Rattle.entries.specs.declared.table.Row.{Row}
-use Rattle.entries.specs.declared.table.Found.{Found}
-use Rattle.entries.specs.declared.table.Found.TheVariants.{At}
-use Rattle.entries.specs.Table.{key, width, lookup}
+use Rattle.entries.specs.Table.{Found, key, width, lookup}
 use Rattle.entries.specs.Laws.{Listed}
-use Rattle.dictionary.specs.declared.read.Shown.TheVariants.{Number}
+use Rattle.std.specs.Prelude.{Some as Number}
 use Rattle.dictionary.specs.Reads.{shown}
 use Rattle.dictionary.specs.Writes.{own_key, written}
 use Rattle.dictionary.specs.Valid.{ValidDevice}

@@ -1,12 +1,11 @@
 -- The reply to a request, "8 bytes, bytes 1..3 of the request repeated,
 -- unused bytes 0", and what the request does. 01, chapter "Service requests".
-use Rattle.std.specs.Prelude.{ℕ, eqb, Bool, true, false, cond, List, [], ◌∷◌}
+use Rattle.std.specs.Prelude.{ℕ, eqb, Bool, true, false, cond, List, [], ◌∷◌, None as Blank, Some as Number}
 use Rattle.can.specs.Number.{low_first}
 use Rattle.names.specs.declared.Transfer.{Transfer}
 use Rattle.names.specs.Transfer.{no_transfer, starting}
 use Rattle.entries.specs.declared.Device.{Device}
-use Rattle.dictionary.specs.declared.read.Shown.{Shown}
-use Rattle.dictionary.specs.declared.read.Shown.TheVariants.{Blank, Number}
+use Rattle.dictionary.specs.Shown.{Shown}
 use Rattle.dictionary.specs.Writes.{put}
 use Rattle.sdo.specs.AbortCodes.{shown_code}
 use Rattle.sdo.specs.declared.reply.Effect.{Effect}

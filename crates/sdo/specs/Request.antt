@@ -1,10 +1,14 @@
 -- A request taken apart: a read, a write, or an unknown command. A request is its eight bytes, f. 01, chapter "Service requests".
-use Rattle.std.specs.Prelude.{ℕ, ◌-◌, ◌/◌, ◌%◌, eqb, get_or, Bool, ◌&&◌, cond, List, [], ◌∷◌}
+use Rattle.std.specs.Prelude.{ℕ, ◌-◌, ◌/◌, ◌%◌, eqb, get_or, Bool, ◌&&◌, cond, List, [], ◌∷◌, Option, None, Some}
+use Rattle.std.specs.Prelude.{Some as Asked, None as UnknownCommand}
 use Rattle.can.specs.Number.{number}
 use Rattle.sdo.specs.declared.request.Access.{Access}
 use Rattle.sdo.specs.declared.request.Access.TheVariants.{Read, Write}
-use Rattle.sdo.specs.declared.request.Request.{Request}
-use Rattle.sdo.specs.declared.request.Request.TheVariants.{Asked, UnknownCommand}
+use Rattle.sdo.specs.declared.request.Ask.{Ask}
+
+-- A read or a write, or else a command that gets 0504 0001h.
+abbrev pub Request : Type 0
+Request = Option Ask
 
 abbrev pub byte : List ℕ → ℕ → ℕ
 byte f k = get_or f k 0
@@ -52,6 +56,10 @@ writing f = eqb (top f) 1 && eqb (byte f 0 / 2 % 2) 1
 -- with bit 0 set the length is 4 less bits 3..2, with bit 0 clear it is the entry's, written as 0 here.
 abbrev pub said_length : ℕ → ℕ
 said_length b = cond (eqb (b % 2) 1) (4 - b / 4 % 4) 0
+
+-- a read or a write of the entry that the request names
+abbrev pub access_in : List ℕ → Option Access
+access_in f = cond (reading f) (Some Read) (cond (writing f) (Some (Write (said_length (byte f 0)) (data_of f))) None)
 
 -- what is asked of the entry that the request names
 abbrev asking : List ℕ → Access → Request

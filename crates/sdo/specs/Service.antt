@@ -1,20 +1,18 @@
 -- What is due to a request: the list "First that applies" of 01, chapter "Service requests".
-use Rattle.std.specs.Prelude.{ℕ, ◌-◌, ◌/◌, ◌%◌, eqb, ltb, Bool, not, ◌&&◌, cond, List, [], ◌∷◌}
+use Rattle.std.specs.Prelude.{ℕ, ◌-◌, ◌/◌, ◌%◌, eqb, ltb, Bool, not, ◌&&◌, cond, List, [], ◌∷◌, Ok as At, Err, None as Blank, Some as Number}
 use Rattle.cases.specs.Cases.{first_of}
 use Rattle.names.specs.declared.Transfer.{Transfer}
 use Rattle.entries.specs.declared.Device.{Device}
 use Rattle.entries.specs.declared.table.Row.{Row}
-use Rattle.entries.specs.declared.table.Found.{Found}
-use Rattle.entries.specs.declared.table.Found.TheVariants.{At, NoSubIndex, NoIndex}
-use Rattle.entries.specs.Table.{no_row, key, width, is_rw, accepted, lookup}
-use Rattle.dictionary.specs.declared.read.Shown.{Shown}
-use Rattle.dictionary.specs.declared.read.Shown.TheVariants.{Blank, Number}
+use Rattle.entries.specs.Table.{Found, no_row, key, width, is_rw, accepted, lookup}
+use Rattle.entries.specs.declared.table.NotFound.TheVariants.{NoSubIndex, NoIndex}
+use Rattle.dictionary.specs.Shown.{Shown}
 use Rattle.dictionary.specs.Reads.{shown}
 use Rattle.dictionary.specs.Accepted.{accepts_in, is_signature, barred}
 use Rattle.dictionary.specs.Writes.{own_key}
 use Rattle.dictionary.specs.AbortCodes.{invalid_value, wrong_signature, device_state}
 use Rattle.sdo.specs.AbortCodes.{request_code, found_code, read_only, too_long, too_short, shown_code}
-use Rattle.sdo.specs.declared.request.Request.TheVariants.{UnknownCommand}
+use Rattle.std.specs.Prelude.{None as UnknownCommand}
 use Rattle.sdo.specs.declared.reply.Served.{Served}
 use Rattle.sdo.specs.Request.{byte, index_of, sub_of, data_of, aborting, reading, writing}
 use Rattle.sdo.specs.Reply.{no_reply, answered, confirmed, aborted, segmented}
@@ -41,13 +39,13 @@ abbrev pub is_absent : Found → Bool
 is_absent x = not (eqb (found_code x) 0)
 
 abbrev pub row_of : Found → Row
-row_of NoIndex = no_row
-row_of NoSubIndex = no_row
+row_of (Err NoIndex) = no_row
+row_of (Err NoSubIndex) = no_row
 row_of (At r) = r
 
 abbrev pub shown_of : Device → Bool → Found → Shown
-shown_of d o NoIndex = Blank
-shown_of d o NoSubIndex = Blank
+shown_of d o (Err NoIndex) = Blank
+shown_of d o (Err NoSubIndex) = Blank
 shown_of d o (At r) = shown d o r
 
 abbrev pub is_blank : Shown → Bool

@@ -1,21 +1,26 @@
 -- The service in the steps that the code takes: the request is taken apart, the entry
 -- is looked up, and one abort code decides, 0 for none. 01, chapter "Service requests".
-use Rattle.std.specs.Prelude.{ℕ, eqb, ltb, Bool, cond, List}
+use Rattle.std.specs.Prelude.{ℕ, eqb, ltb, Bool, cond, List, Result, Ok, Ok as At, Err, Some as Asked, None as UnknownCommand}
 use Rattle.entries.specs.declared.Device.{Device}
 use Rattle.entries.specs.declared.table.Row.{Row}
-use Rattle.entries.specs.declared.table.Found.{Found}
-use Rattle.entries.specs.declared.table.Found.TheVariants.{At, NoSubIndex, NoIndex}
-use Rattle.entries.specs.Table.{width, is_rw, altered, lookup}
+use Rattle.entries.specs.Table.{Found, width, is_rw, altered, lookup}
+use Rattle.entries.specs.declared.table.NotFound.TheVariants.{NoSubIndex, NoIndex}
+use Rattle.dictionary.specs.declared.abort.Abort.{Abort}
+use Rattle.dictionary.specs.AbortCodes.{code_of}
 use Rattle.dictionary.specs.Reads.{shown}
 use Rattle.dictionary.specs.Accepted.{abort_code}
 use Rattle.sdo.specs.AbortCodes.{request_code, found_code, read_only, too_long, too_short}
 use Rattle.sdo.specs.declared.request.Access.{Access}
 use Rattle.sdo.specs.declared.request.Access.TheVariants.{Read, Write}
-use Rattle.sdo.specs.declared.request.Request.{Request}
-use Rattle.sdo.specs.declared.request.Request.TheVariants.{Asked, UnknownCommand}
+use Rattle.sdo.specs.Request.{Request}
 use Rattle.sdo.specs.declared.reply.Served.{Served}
 use Rattle.sdo.specs.Reply.{shown_reply, confirmed, aborted}
 use Rattle.sdo.specs.Service.{cut_to}
+
+-- the reply to an answer: an abort with its code, or what is answered
+abbrev pub reply_in : List ℕ → Result Served Abort → Served
+reply_in f (Ok served) = served
+reply_in f (Err reason) = aborted f (code_of reason)
 
 -- a length of 0 is the entry's
 abbrev pub length_code : ℕ → ℕ → ℕ
@@ -35,8 +40,8 @@ entry_reply d o f r Read = shown_reply f (width r) (shown d o r)
 entry_reply d o f r (Write n content) = row_reply d f n content r
 
 abbrev pub found_reply : Device → Bool → List ℕ → Access → Found → Served
-found_reply d o f a NoIndex = aborted f (found_code NoIndex)
-found_reply d o f a NoSubIndex = aborted f (found_code NoSubIndex)
+found_reply d o f a (Err NoIndex) = aborted f (found_code (Err NoIndex))
+found_reply d o f a (Err NoSubIndex) = aborted f (found_code (Err NoSubIndex))
 found_reply d o f a (At r) = entry_reply d o f r a
 
 abbrev pub reply_to : Device → Bool → List ℕ → Request → Served

@@ -1,14 +1,12 @@
 -- "A request taken apart is a read, a write, or a reason to abort": stated with the
 -- request's bytes and the numbers of its enums. 01, chapter "Service requests".
-use Rattle.std.specs.Prelude.{ℕ, ◌+◌, ◌*◌, ◌-◌, ◌/◌, ◌%◌, get_or, ◌≡◌, ◌↔◌, ◌⊎◌, List}
+use Rattle.std.specs.Prelude.{ℕ, ◌+◌, ◌*◌, ◌-◌, ◌/◌, ◌%◌, get_or, ◌≡◌, ◌↔◌, ◌⊎◌, List, Some as Asked, None as UnknownCommand}
 use Rattle.can.specs.Number.{number}
 use Rattle.sdo.specs.declared.request.Access.{Access}
 use Rattle.sdo.specs.declared.request.Access.TheVariants.{Read, Write}
 use Rattle.sdo.specs.declared.request.Ask.{Ask}
-use Rattle.sdo.specs.declared.request.Request.{Request}
-use Rattle.sdo.specs.declared.request.Request.TheVariants.{Asked, UnknownCommand}
+use Rattle.sdo.specs.Request.{Request, access_top, taken_apart}
 use Rattle.sdo.specs.AbortCodes.{request_code}
-use Rattle.sdo.specs.Request.{access_top, taken_apart}
 use Rattle.sdo.specs.Exactly.{Reads, Writes, first_data}
 
 abbrev pub asks : List ℕ → Access → Request

@@ -1,4 +1,5 @@
-//! The types of a request that is taken apart.
+//! What a request asks, when it is taken apart.
+
 // `length` is 0 if the request leaves it to the entry.
 #[derive(Clone, Copy)]
 pub enum Access {
@@ -11,11 +12,4 @@ pub struct Ask {
     pub index: u16,
     pub sub: u8,
     pub access: Access,
-}
-
-// A read, a write, or a command that gets 0504 0001h.
-#[derive(Clone, Copy)]
-pub enum Request {
-    Asked(Ask),
-    UnknownCommand,
 }

@@ -4,33 +4,29 @@
 
 ghost use Rattle.std.specs.Prelude.{◌≡◌};
 ghost use Rattle.position.specs.Profile.{ValidProfile};
-ghost use Rattle.sdo.specs.Steps.{entry_reply, reply_to};
+ghost use Rattle.entries.specs.Table.{lookup};
+ghost use Rattle.sdo.specs.Steps.{found_reply, reply_to, reply_in};
 ghost use Rattle.sdo.specs.Service.{answer, due};
 ghost use Rattle.sdo.specs.Upload.{due_in};
 
 use can::Bytes;
+use dictionary::abort::Abort;
 use entries::Device;
-use entries::table::{Found, Row};
 use names::Transfer;
 use sdo::reply::Served;
-use sdo::request::{Access, Request};
+use sdo::request::{Access, Ask};
 
 mod download;
 mod upload;
 
-const UNKNOWN_COMMAND: u32 = 0x0504_0001;
-
-const NO_SUCH_INDEX: u32 = 0x0602_0000;
-
-const NO_SUCH_SUB_INDEX: u32 = 0x0609_0011;
-
 // The reply due to a request, what the request does, and the transfer that it leaves.
+#[tactic(auto, unfolding(sdo::specs::Upload::due_in))]
 pub fn serve(device: Device, operational: bool, transfer: Transfer, bytes: Bytes) -> Served
     requires { ValidProfile device.settings.profile }
     ensures { result ≡ answer bytes (due_in device operational transfer bytes) }
 {
     let command = bytes[0];
-    if names::runs(transfer) & requests::is_segment(command) {
+    if names::runs(transfer) && requests::is_segment(command) {
         return upload::segment(device.identity, transfer, command);
     }
     first(device, operational, bytes)
@@ -47,30 +43,28 @@ fn first(device: Device, operational: bool, bytes: Bytes) -> Served
     reply_to(device, operational, bytes, requests::taken_apart(bytes))
 }
 
-fn reply_to(device: Device, operational: bool, bytes: Bytes, request: Request) -> Served
+fn reply_to(device: Device, operational: bool, bytes: Bytes, request: Option<Ask>) -> Served
     requires { ValidProfile device.settings.profile }
     ensures { result ≡ reply_to device operational bytes request }
 {
-    let Request::Asked(ask) = request else {
-        return replies::abort(bytes, UNKNOWN_COMMAND);
+    let Some(ask) = request else {
+        return replies::abort(bytes, Abort::UnknownCommand.code());
     };
-    let access = ask.access;
-    let found = entries::table::find(ask.index, ask.sub);
-    match found {
-        Found::NoIndex => replies::abort(bytes, NO_SUCH_INDEX),
-        Found::NoSubIndex => replies::abort(bytes, NO_SUCH_SUB_INDEX),
-        Found::At(row) => entry_reply(device, operational, bytes, row, access),
+    match answer_to(device, operational, bytes, ask) {
+        Ok(served) => served,
+        Err(reason) => replies::abort(bytes, reason.code()),
     }
 }
 
-fn entry_reply(device: Device, operational: bool, bytes: Bytes, row: Row, access: Access) -> Served
+fn answer_to(device: Device, operational: bool, bytes: Bytes, ask: Ask) -> Result<Served, Abort>
     requires { ValidProfile device.settings.profile }
-    ensures { result ≡ entry_reply device operational bytes row access }
+    ensures { reply_in bytes result ≡ found_reply device operational bytes ask.access (lookup ask.index ask.sub) }
 {
-    match access {
+    let row = entries::table::find(ask.index, ask.sub)?;
+    match ask.access {
         Access::Read => {
-            let width = row.1;
-            replies::shown(bytes, width, values::read(device, operational, row))
+            let entry = values::read(device, operational, row);
+            Ok(replies::shown(bytes, row.width, entry))
         }
         Access::Write { length, content } => {
             download::to_row(device, bytes, length, content, row)

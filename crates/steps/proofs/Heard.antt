@@ -11,8 +11,7 @@ use Rattle.can.specs.declared.Received.{Received}
 use Rattle.can.specs.Frame.{refusal_of}
 use Rattle.names.specs.declared.Transfer.{Transfer}
 use Rattle.names.specs.Transfer.{no_transfer}
-use Rattle.entries.specs.Table.{lookup}
-use Rattle.entries.specs.declared.table.Found.{Found}
+use Rattle.entries.specs.Table.{lookup, Found}
 use Rattle.dictionary.specs.Writes.{own_key, Fits}
 use Rattle.dictionary.proofs.Laws.{laws}
 use Rattle.sdo.specs.declared.reply.Effect.{Effect}

@@ -8,23 +8,24 @@ ghost use Rattle.entries.specs.Identity.{name_of};
 ghost use Rattle.entries.specs.Table.{blank_in, settings_of, beside, number_of};
 ghost use Rattle.dictionary.specs.Reads.{shown};
 
-use dictionary::read::Shown;
-use entries::table::{Row, Source, WhenBlank};
+use entries::table::{
+    EMERGENCY, HEARTBEAT, INHIBIT, OPERATING, PRESET, RANGE, Row, STEP, Source, TPDO1_EVENT,
+    TPDO1_ID, TPDO1_TYPE, TPDO2_EVENT, TPDO2_ID, TPDO2_TYPE, WhenBlank,
+};
 use entries::{Device, Identity, Settings};
 
 const OPERATIONAL: u32 = 0x8000;
 
-// What the entry of a row reads.
-pub fn read(device: Device, operational: bool, row: Row) -> Shown
+// What the entry of a row reads; `None` is blank, which is no number and not 0.
+#[tactic(auto, unfolding(dictionary::specs::Reads::shown))]
+pub fn read(device: Device, operational: bool, row: Row) -> Option<u32>
     requires { ValidProfile device.settings.profile }
     ensures { result ≡ shown device operational row }
 {
-    let when = row.4;
-    let source = row.5;
-    if is_blank(when, device) {
-        return Shown::Blank;
+    if is_blank(row.blank, device) {
+        return None;
     }
-    Shown::Number(number(source, device, operational))
+    Some(number(row.source, device, operational))
 }
 
 fn is_blank(when: WhenBlank, device: Device) -> bool
@@ -43,7 +44,6 @@ fn number(source: Source, device: Device, operational: bool) -> u32
 {
     let identity = device.identity;
     let settings = device.settings;
-    let profile = settings.profile;
     match source {
         Source::Fixed(number) => number,
         Source::Setting(key) => setting(settings, key),
@@ -54,9 +54,9 @@ fn number(source: Source, device: Device, operational: bool) -> u32
         Source::Product => identity.product,
         Source::Revision => identity.revision,
         Source::Serial => identity.serial,
-        Source::Position => position::position_of(profile, device.reading.raw),
-        Source::Status => status(profile.operating, operational),
-        Source::Offset => can::bits(profile.offset),
+        Source::Position => position::position_of(settings.profile, device.reading.raw),
+        Source::Status => status(settings.profile.operating, operational),
+        Source::Offset => can::bits(settings.profile.offset),
     }
 }
 
@@ -67,19 +67,19 @@ fn setting(settings: Settings, key: u32) -> u32
     let communication = settings.communication;
     let profile = settings.profile;
     match key {
-        0x1014_00 => communication.emergency,
-        0x1015_00 => communication.inhibit,
-        0x1017_00 => communication.heartbeat,
-        0x1800_01 => communication.pdo1.identifier,
-        0x1800_02 => communication.pdo1.transmission,
-        0x1800_05 => communication.pdo1.event,
-        0x1801_01 => communication.pdo2.identifier,
-        0x1801_02 => communication.pdo2.transmission,
-        0x1801_05 => communication.pdo2.event,
-        0x6000_00 => profile.operating,
-        0x6002_00 => profile.range,
-        0x6003_00 => profile.preset,
-        0x6005_01 => profile.step,
+        EMERGENCY => communication.emergency,
+        INHIBIT => communication.inhibit,
+        HEARTBEAT => communication.heartbeat,
+        TPDO1_ID => communication.pdo1.identifier,
+        TPDO1_TYPE => communication.pdo1.transmission,
+        TPDO1_EVENT => communication.pdo1.event,
+        TPDO2_ID => communication.pdo2.identifier,
+        TPDO2_TYPE => communication.pdo2.transmission,
+        TPDO2_EVENT => communication.pdo2.event,
+        OPERATING => profile.operating,
+        RANGE => profile.range,
+        PRESET => profile.preset,
+        STEP => profile.step,
         _ => 0,
     }
 }
@@ -88,13 +88,12 @@ fn setting(settings: Settings, key: u32) -> u32
 fn size(identity: Identity, number: u8) -> u32
     ensures { result ≡ (name_of identity number).length }
 {
-    if number == 1 {
-        return identity.name.length as u32;
-    }
-    if number == 2 {
-        return identity.hardware.length as u32;
-    }
-    identity.software.length as u32
+    let length = match number {
+        1 => identity.name.length,
+        2 => identity.hardware.length,
+        _ => identity.software.length,
+    };
+    u32::from(length)
 }
 
 fn register(good: bool) -> u32

@@ -4,84 +4,74 @@
 
 ghost use Rattle.std.specs.Prelude.{◌≡◌, cond};
 ghost use Rattle.position.specs.Profile.{ValidProfile};
-ghost use Rattle.dictionary.specs.Writes.{pdo_after, communication_after, range_for, rescaled_to, profile_after, saved_after, Fits, put};
+ghost use Rattle.dictionary.specs.Writes.{communication_after, range_for, rescaled_to, profile_after, saved_after, Fits, put};
 
 use entries::table::{
-    EMERGENCY, ERROR_COUNT, HEARTBEAT, INHIBIT, LOAD, OPERATING, PRESET, RANGE, SAVE, STEP, TPDO1,
-    TPDO2, key_of,
+    EMERGENCY, ERROR_COUNT, HEARTBEAT, INHIBIT, LOAD, OPERATING, PRESET, RANGE, SAVE, STEP,
+    TPDO1_EVENT, TPDO1_ID, TPDO1_TYPE, TPDO2_EVENT, TPDO2_ID, TPDO2_TYPE,
 };
-use entries::{Communication, Device, Pdo, Settings};
+use entries::{Communication, Device, Settings};
 use position::{FULL_RANGE, Profile, SCALED_RANGE};
 
-// The device after a write to which `acceptance::abort_code` gives 0. The key is the name that `entries::table::altered` gives.
+// The device after a write that `acceptance::check_write` lets pass. The key is the name that `entries::table::altered` gives.
+#[tactic(auto, unfolding(dictionary::specs::Writes::put))]
 pub fn write(device: Device, key: u32, value: u32) -> Device
     requires { (ValidProfile device.settings.profile) × (Fits device.settings.profile key value) }
     ensures { result ≡ put device key value }
 {
-    let identity = device.identity;
-    let reading = device.reading;
     let communication = device.settings.communication;
     let profile = device.settings.profile;
     Device {
-        node: device.node,
-        identity: identity,
-        reading: reading,
-        errors: choose(key == ERROR_COUNT, 0, device.errors),
+        errors: if key == ERROR_COUNT { 0 } else { device.errors },
         settings: Settings {
             communication: communication_after(communication, key, value),
-            profile: profile_after(profile, reading.raw, key, value),
+            profile: profile_after(profile, device.reading.raw, key, value),
         },
         saved: saved_after(device, key),
+        ..device
     }
 }
 
 pub fn communication_after(old: Communication, key: u32, value: u32) -> Communication
     ensures { result ≡ communication_after old key value }
 {
-    let pdo1 = old.pdo1;
-    let pdo2 = old.pdo2;
-    Communication {
-        emergency: choose(key == EMERGENCY, value, old.emergency),
-        inhibit: choose(key == INHIBIT, value, old.inhibit),
-        heartbeat: choose(key == HEARTBEAT, value, old.heartbeat),
-        pdo1: pdo_after(TPDO1, pdo1, key, value),
-        pdo2: pdo_after(TPDO2, pdo2, key, value),
+    let mut new = old;
+    match key {
+        EMERGENCY => new.emergency = value,
+        INHIBIT => new.inhibit = value,
+        HEARTBEAT => new.heartbeat = value,
+        TPDO1_ID => new.pdo1.identifier = value,
+        TPDO1_TYPE => new.pdo1.transmission = value,
+        TPDO1_EVENT => new.pdo1.event = value,
+        TPDO2_ID => new.pdo2.identifier = value,
+        TPDO2_TYPE => new.pdo2.transmission = value,
+        TPDO2_EVENT => new.pdo2.event = value,
+        _ => {}
     }
-}
-
-fn pdo_after(index: u16, pdo: Pdo, key: u32, value: u32) -> Pdo
-    ensures { result ≡ pdo_after index pdo key value }
-{
-    Pdo {
-        identifier: choose(key == key_of(index, 1), value, pdo.identifier),
-        transmission: choose(key == key_of(index, 2), value, pdo.transmission),
-        event: choose(key == key_of(index, 5), value, pdo.event),
-    }
+    new
 }
 
 pub fn profile_after(old: Profile, raw: u32, key: u32, value: u32) -> Profile
     requires { (ValidProfile old) × (Fits old key value) }
     ensures { result ≡ profile_after old raw key value }
 {
-    if key == OPERATING {
-        return rescaled(value, range_for(value), old.step);
+    match key {
+        OPERATING => rescaled(value, range_for(value), old.step),
+        RANGE => rescaled(old.operating, value, old.step),
+        STEP => rescaled(old.operating, old.range, value),
+        PRESET => position::preset_to(old, raw, value),
+        _ => old,
     }
-    if key == RANGE {
-        return rescaled(old.operating, value, old.step);
-    }
-    if key == STEP {
-        return rescaled(old.operating, old.range, value);
-    }
-    if key == PRESET {
-        return position::preset_to(old, raw, value);
-    }
-    old
 }
 
 fn range_for(operating: u32) -> u32
     ensures { result ≡ range_for operating }
 {
-    choose(position::scaling(operating), SCALED_RANGE, FULL_RANGE)
+    if position::scaling(operating) {
+        SCALED_RANGE
+    } else {
+        FULL_RANGE
+    }
 }
 
 // With the preset and the offset 0.
@@ -89,10 +79,10 @@ fn rescaled(operating: u32, range: u32, step: u32) -> Profile
     ensures { result ≡ rescaled_to operating range step }
 {
     Profile {
-        operating: operating,
-        range: range,
+        operating,
+        range,
         preset: 0,
-        step: step,
+        step,
         offset: 0,
     }
 }
@@ -100,17 +90,9 @@ fn rescaled(operating: u32, range: u32, step: u32) -> Profile
 fn saved_after(device: Device, key: u32) -> Settings
     ensures { result ≡ saved_after device key }
 {
-    if key == SAVE {
-        return device.settings;
+    match key {
+        SAVE => device.settings,
+        LOAD => Settings::factory(device.node),
+        _ => device.saved,
     }
-    if key == LOAD {
-        return Settings::factory(device.node);
-    }
-    device.saved
-}
-
-fn choose(test: bool, a: u32, b: u32) -> u32
-    ensures { result ≡ cond test a b }
-{
-    if test { a } else { b }
 }
