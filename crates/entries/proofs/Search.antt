@@ -1,12 +1,12 @@
 -- The row of a key: it stands in the list, or no row has the key. Each index of the list has the sub-index 0. Assumes nothing.
-use Prim.Native.Nat.{ℕ, zero, suc, ◌<◌, ◌≤◌}
+use Prim.Native.Nat.{ℕ, zero, suc, ◌<◌}
 use native.Mathlib.Omega.{arith}
 use mathlib.Core.Path.{◌≡◌, refl, sym, ap, subst, ◌∙◌}
-use mathlib.Core.Bool.{Bool, true, false, ◌||◌, ◌&&◌}
+use mathlib.Core.Bool.{Bool, true, false}
 use mathlib.Core.List.{List, [], ◌∷◌, map}
-use lib.Dec.{eqb, leb, ltb}
-use borrow.Author.Tests.{eqb-true, eqb-false, ne_eqb, leb-true, ltb-true}
-use Rattle.cases.proofs.Cases.{true_false, test, both, either}
+use lib.Dec.{eqb}
+use borrow.Author.Tests.{eqb-true, eqb-false}
+use Rattle.cases.proofs.Cases.{true_false, test}
 use Rattle.entries.specs.declared.table.Row.{Row}
 use Rattle.std.specs.Prelude.{Option, None, Some}
 use Rattle.entries.specs.Table.{table, key, index, key_of, with_key, row_of_key}
@@ -59,45 +59,3 @@ pub no_first : (i : ℕ) → row_of_key (key_of i 0) ≡ None → (r : Row) → 
 no_first i e r h =
     let f = agree (λ q. is_none (row_of_key (key_of (index q) 0))) (λ q. false) first r h.0 in
     true_false (ap is_none (sym e) ∙ (rw h.1 at f))
-
--- What the default arm of a `match` on a number knows: the number is none of the keys (last arm's key first).
-abbrev Beside : ℕ → List ℕ → Type 0
-Beside n [] = Unit {0}
-Beside n (k ∷ ks) = Beside n ks × (n ≡ k → ⊥)
-
-abbrev listed : List ℕ → ℕ → Bool
-listed [] a = false
-listed (k ∷ ks) a = eqb a k || listed ks a
-
--- whether each row's key is among ks or passes a test
-abbrev all_listed : List ℕ → (ℕ → Bool) → List Row → Bool
-all_listed ks t [] = true
-all_listed ks t (r ∷ l) = (listed ks (key r) || t (key r)) && all_listed ks t l
-
-not_listed : (k a : ℕ) (ks : List ℕ) → Beside k ks → listed ks a ≡ true → eqb a k ≡ false
-not_listed k a [] b e = true_false (sym e)
-not_listed k a (n ∷ ks) b e =
-    either (eqb a n) (listed ks a) e
-    (λ f. ne_eqb a k (λ g. b.1 (sym g ∙ eqb-true a n f)))
-    (λ f. not_listed k a ks b.0 f)
-
--- No row has a key that is none of those of its half, ks, if the other rows' keys are not in that half.
-absent_in : (l : List Row) (ks : List ℕ) (t : ℕ → Bool) (k : ℕ) → ((a : ℕ) → t a ≡ true → eqb a k ≡ false) → all_listed ks t l ≡ true
-    → Beside k ks → None ≡ with_key l k
-absent_in [] ks t k o e b = refl
-absent_in (r ∷ l) ks t k o e b =
-    let h = both (listed ks (key r) || t (key r)) (all_listed ks t l) e in
-    let other = either (listed ks (key r)) (t (key r)) h.0 (λ f. not_listed k (key r) ks b f) (λ f. o (key r) f) in
-    rw other (absent_in l ks t k o h.1 b)
-
-absent : (ks : List ℕ) (t : ℕ → Bool) (k : ℕ) → ((a : ℕ) → t a ≡ true → eqb a k ≡ false) → all_listed ks t table ≡ true → Beside k ks
-    → None ≡ row_of_key k
-unfolding row_of_key
-absent ks t k o e b = absent_in table ks t k o e b
-
--- the lower half ends before b, and the upper half begins there
-pub absent_low : (b : ℕ) (ks : List ℕ) (k : ℕ) → k < b → all_listed ks (leb b) table ≡ true → Beside k ks → None ≡ row_of_key k
-absent_low b ks k l = absent ks (leb b) k (λ a e. let h = leb-true b a e in ne_eqb a k (λ f. omega arith))
-
-pub absent_high : (b : ℕ) (ks : List ℕ) (k : ℕ) → b ≤ k → all_listed ks (λ a. ltb a b) table ≡ true → Beside k ks → None ≡ row_of_key k
-absent_high b ks k l = absent ks (λ a. ltb a b) k (λ a e. let h = ltb-true a b e in ne_eqb a k (λ f. omega arith))

@@ -35,7 +35,8 @@ pub enum WhenBlank {
     Beyond(u32),
 }
 
-// Where the number of an entry comes from. A setting has the key of its entry for a name.
+// Where the number of an entry comes from. A setting has the key of its entry for a name; a name has the number, 1 to 3, that
+// `Transfer` holds for C: so it is no enum.
 #[derive(Clone, Copy)]
 pub enum Source {
     Fixed(u32),
@@ -125,24 +126,20 @@ const RO: bool = false;
 
 const RW: bool = true;
 
-// Each index has the sub-index 0: if the list has no row for that, there is no such index. The second look is a second turn of the loop,
-// so that the list is compiled once.
+// Each index has the sub-index 0: if the list has no row for that, there is no such index.
 pub fn find(index: u16, sub: u8) -> Result<Row, NotFound>
     ensures { result ≡ lookup index sub }
 {
-    let mut asked = sub;
-    loop {
+    for asked in [sub, 0] {
         if let Some(row) = row_of(key_of(index, asked)) {
-            if asked == sub {
-                return Ok(row);
-            }
-            return Err(NotFound::NoSubIndex);
+            return if asked == sub {
+                Ok(row)
+            } else {
+                Err(NotFound::NoSubIndex)
+            };
         }
-        if asked == 0 {
-            return Err(NotFound::NoIndex);
-        }
-        asked = 0;
     }
+    Err(NotFound::NoIndex)
 }
 
 // Halves the list by its order, and looks for the key in the half that may have it.

@@ -1,6 +1,6 @@
 //! What a request asks, when it is taken apart.
 
-// `length` is 0 if the request leaves it to the entry.
+// `length` is 0 if the request leaves it to the entry, as `Taken.write_unsaid` says: so it is no Option.
 #[derive(Clone, Copy)]
 pub enum Access {
     Read,

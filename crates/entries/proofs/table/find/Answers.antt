@@ -1,56 +1,59 @@
--- `table::find` meets its contract: the row is there, or the row of sub_index 0 tells whether the index is.
-use Prim.Native.Nat.{ℕ, ◌<◌}
+-- `table::find` meets its contract: the row is there, or the row of sub-index 0 tells whether the index is.
+use Prim.Native.Nat.{ℕ, zero, suc, ◌+◌, ◌<◌}
 use mathlib.Core.Path.{◌≡◌, refl, sym, ap, ◌∙◌}
-use mathlib.Core.Logic.{◌⊎◌, inl, inr}
+use mathlib.Core.List.{[], ◌∷◌}
 use native.Mathlib.Omega.{arith}
-use Rattle.entries.specs.declared.table.Row.{Row}
 use Rattle.std.specs.Prelude.{Option, None, Some, Ok as At, Err}
-use Rattle.entries.specs.declared.table.NotFound.TheVariants.{NoSubIndex, NoIndex}
+use Rattle.std.proofs.Common.{slice_index_or}
+use Rattle.entries.specs.declared.table.Row.{Row}
+use Rattle.entries.specs.declared.table.NotFound.TheVariants.{NoSubIndex}
 use Rattle.entries.specs.Table.{key_of, row_of_key, lookup}
-use Rattle.entries.specs.Laws.{Stands}
 use Rattle.entries.proofs.Found.{finds}
 use Rattle.entries.proofs.Search.{there, not_there, no_first}
+use Rattle.entries.proofs.table.find.Invariants.{Tried}
 use Rattle.entries.proofs.table.find.Goals as goal
 
--- The sub-index asked for, or after it 0.
--- what was sought for the sub-index a
-module _ (i j a k : ℕ) (x : Option Row) (e : k ≡ key_of i a) (f : x ≡ row_of_key k) where
-  abbrev Asks : Type 0
-  Asks = (a ≡ j) ⊎ ((a ≡ 0) × ((q : Row) → Stands q i j → ⊥))
+-- the sub-indices that are asked for
+abbrev asked : ℕ → ℕ → ℕ
+asked j p = slice_index_or {A = ℕ} (j ∷ 0 ∷ []) p 0
 
+-- what was sought for the sub-index a
+module _ (i a k : ℕ) (x : Option Row) (e : k ≡ key_of i a) (f : x ≡ row_of_key k) where
   sought : row_of_key (key_of i a) ≡ x
   sought = sym (f ∙ ap row_of_key e)
 
-  stands : (r : Row) → x ≡ Some r → a < 256 → Stands r i a
-  stands r g b = there i a r b (sought ∙ g)
+  found : (j : ℕ) (r : Row) → x ≡ Some r → a ≡ j → j < 256 → At r ≡ lookup i j
+  found j r g y b = sym (((finds i j).at r).1 (there i j r b (ap (λ n. row_of_key (key_of i n)) (sym y) ∙ sought ∙ g)))
 
-  found_law : (r : Row) → x ≡ Some r → a ≡ j → a < 256 → At r ≡ lookup i j
-  found_law r g y b = sym (((finds i j).at r).1 (rw (← y) (stands r g b)))
+no_sub_law : (i j p k : ℕ) (x : Option Row) (r : Row) → k ≡ key_of i (asked j p) → x ≡ row_of_key k → x ≡ Some r
+    → Tried i j p → (asked j p ≡ j → ⊥) → p < 2 → Err NoSubIndex ≡ lookup i j
+no_sub_law i j zero k x r e f g t m b = absurd (m refl)
+no_sub_law i j (suc zero) k x r e f g t m b =
+    let h = there i 0 r (omega arith) (sought i 0 k x e f ∙ g) in
+    sym ((finds i j).no_sub_index.1 ((r, h.0), not_there i j (t.first (omega arith))))
+no_sub_law i j (suc (suc p)) k x r e f g t m b = absurd (omega arith)
 
-  no_sub_law : (r : Row) → x ≡ Some r → Asks → (a ≡ j → ⊥) → Err NoSubIndex ≡ lookup i j
-  no_sub_law r g (inl y) m = absurd (m y)
-  no_sub_law r g (inr (y, none)) m = sym ((finds i j).no_sub_index.1 ((r, (stands r g (omega arith)).0), none))
+next : (i j p k : ℕ) (x : Option Row) → k ≡ key_of i (asked j p) → x ≡ row_of_key k → x ≡ None → Tried i j p → p < 2 → Tried i j (p + 1)
+next i j zero k x e f g t b = record { first = λ l. sought i j k x e f ∙ g; second = λ l. absurd (omega arith) }
+next i j (suc zero) k x e f g t b = record { first = λ l. t.first (omega arith); second = λ l. sought i 0 k x e f ∙ g }
+next i j (suc (suc p)) k x e f g t b = absurd (omega arith)
 
-  no_index : x ≡ None → a ≡ 0 → Err NoIndex ≡ lookup i j
-  no_index g z = sym ((finds i j).no_index.1 (no_first i (ap (λ b. row_of_key (key_of i b)) (sym z) ∙ sought ∙ g)))
-
-  next : x ≡ None → Asks → (a ≡ 0 → ⊥) → (q : Row) → Stands q i j → ⊥
-  next g (inl y) m q s = not_there i j (ap (λ b. row_of_key (key_of i b)) (sym y) ∙ sought ∙ g) q s
-  next g (inr (y, none)) m q s = m y
+pub loop-asked-init : goal.loop-asked-init
+loop-asked-init c = record { first = λ l. absurd (omega arith); second = λ l. absurd (omega arith) }
 
 pub returns-then-asked-sub : goal.returns-then-asked-sub
-returns-then-asked-sub c =
-    found_law _ _ c.loop-row.asked _ _ c.key_of.ensures c.row_of.ensures _ c.in-Some.is c.if-asked-sub.true (omega (arith, c.if-asked-sub.true))
+returns-then-asked-sub c = found _ _ _ _ c.key_of.ensures c.row_of.ensures _ _ c.in-Some.is c.if-asked-sub.true (omega arith)
 
-pub returns-in-Some : goal.returns-in-Some
-returns-in-Some c =
-    let l = c.loop-row in
-    no_sub_law _ _ l.asked _ _ c.key_of.ensures c.row_of.ensures _ c.in-Some.is l.invariant c.if-asked-sub.false
+pub returns-else-asked-sub : goal.returns-else-asked-sub
+returns-else-asked-sub c =
+    let l = c.loop-asked in
+    no_sub_law _ _ l.asked-index _ _ _ c.key_of.ensures c.row_of.ensures c.in-Some.is l.invariant c.if-asked-sub.false c.loop-asked-test.true
 
-pub returns-then-asked-eq0 : goal.returns-then-asked-eq0
-returns-then-asked-eq0 c = no_index _ _ c.loop-row.asked _ _ c.key_of.ensures c.row_of.ensures c.in_default.is c.if-asked-eq0.true
+pub loop-asked-preserved : goal.loop-asked-preserved
+loop-asked-preserved c =
+    next _ _ c.loop-asked.asked-index _ _ c.key_of.ensures c.row_of.ensures c.in_default.is c.loop-asked.invariant c.loop-asked-test.true
 
-pub loop-row-preserved : goal.loop-row-preserved
-loop-row-preserved c =
-    let l = c.loop-row in
-    inr (refl, next _ _ l.asked _ _ c.key_of.ensures c.row_of.ensures c.in_default.is l.invariant c.if-asked-eq0.false)
+pub returns : goal.returns
+returns c =
+    let none = c.loop-asked.invariant.second (omega (arith, c.loop-asked-test.false)) in
+    sym ((finds c.args.index c.args.sub).no_index.1 (no_first c.args.index none))

@@ -1,11 +1,13 @@
+use Prim.Native.Nat.{ℕ, ◌<◌}
 use mathlib.Core.Path.{◌≡◌}
-use mathlib.Core.Logic.{◌⊎◌}
-use Rattle.entries.specs.declared.table.Row.{Row}
-use Rattle.entries.specs.Laws.{Stands}
+use Rattle.std.specs.Prelude.{None}
+use Rattle.entries.specs.Table.{key_of, row_of_key}
 use Rattle.entries.proofs.table.find.Given as goal
 
-abbrev pub invariant-loop-row : goal.invariant-loop-row
-invariant-loop-row l = (l.asked ≡ l.sub) ⊎ ((l.asked ≡ 0) × ((r : Row) → Stands r l.index l.sub → ⊥))
+-- The list has no row for the first p sub-indices that are asked for: j, and then 0.
+pub record Tried (i j p : ℕ) : Type 0 where
+  pub first : 0 < p → row_of_key (key_of i j) ≡ None
+  pub second : 1 < p → row_of_key (key_of i 0) ≡ None
 
-abbrev pub decreases-loop-row : goal.decreases-loop-row
-decreases-loop-row l = l.asked
+abbrev pub invariant-loop-asked : goal.invariant-loop-asked
+invariant-loop-asked l = Tried l.index l.sub l.asked-index
