@@ -16,7 +16,7 @@ const BIT_31: u32 = 0x8000_0000;
 const BIT_11: u32 = 0x800;
 
 // Whether the entry of the row takes the write: first by the value, then by the state.
-#[tactic(auto, unfolding(dictionary::specs::Accepted::abort_code))]
+#[tactic(auto, unfolding(dictionary::specs::Accepted::abort_code), using(dictionary::proofs::Accepted::state_due))]
 pub fn check_write(device: Device, row: Row, value: u32) -> Result<(), Abort>
     ensures { code_in result ≡ abort_code device row value }
 {

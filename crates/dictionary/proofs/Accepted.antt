@@ -4,6 +4,7 @@ use Prim.Native.Nat.{ℕ}
 use native.Mathlib.Omega.{arith}
 use mathlib.Core.Path.{◌≡◌, refl}
 use mathlib.Core.Bool.{Bool, true, false, not, cond}
+use Rattle.cases.proofs.Cases.{true_false}
 use Rattle.entries.specs.declared.Device.{Device}
 use Rattle.entries.specs.declared.table.Row.{Row}
 use Rattle.entries.specs.Table.{key}
@@ -18,10 +19,11 @@ code a s = cond a 0 (cond s wrong_signature invalid_value)
 abbrev state : Bool → ℕ
 state b = cond b device_state 0
 
-free : (a s b : Bool) → code a s ≡ 0 → state b ≡ cond (not a) (cond s wrong_signature invalid_value) (state b)
-free true s b h = refl
-free false true b h = absurd (omega arith)
-free false false b h = absurd (omega arith)
+state_next : (a s b : Bool) → 0 ≡ code a s → true ≡ b → device_state ≡ cond (not a) (cond s wrong_signature invalid_value) (state b)
+state_next true s true e f = refl
+state_next true s false e f = true_false f
+state_next false true b e f = absurd (omega arith)
+state_next false false b e f = absurd (omega arith)
 
 unaborted : (a s b : Bool) → cond (not a) (cond s wrong_signature invalid_value) (state b) ≡ 0 → (a ≡ true) × (b ≡ false)
 unaborted true s true e = absurd (omega arith)
@@ -29,16 +31,10 @@ unaborted true s false e = (refl, refl)
 unaborted false true b e = absurd (omega arith)
 unaborted false false b e = absurd (omega arith)
 
-module _ (d : Device) (r : Row) (v x : ℕ) (e : x ≡ value_abort_code r.accepted d.node d.settings.profile.range v) where
-  abbrev accepted : Bool
-  accepted = accepts_in d r v
-
-  abbrev stops : Bool
-  stops = barred d (key r) v
-
-  pub state_next : (b : Bool) → b ≡ barred d (key r) v → x ≡ 0 → state b ≡ abort_code d r v
-  unfolding abort_code
-  state_next b f h = rw f (free accepted (is_signature r.accepted) stops (rw (← e) h))
+pub state_due : (d : Device) (r : Row) (v : ℕ) → 0 ≡ value_abort_code r.accepted d.node d.settings.profile.range v
+    → true ≡ barred d (key r) v → device_state ≡ abort_code d r v
+unfolding abort_code
+state_due d r v e f = state_next (accepts_in d r v) (is_signature r.accepted) (barred d (key r) v) e f
 
 pub taken : (d : Device) (r : Row) (v : ℕ) → abort_code d r v ≡ 0
     → (accepts_in d r v ≡ true) × (barred d (key r) v ≡ false)
