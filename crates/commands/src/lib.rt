@@ -11,7 +11,7 @@ ghost use Rattle.transcript.specs.Bytes.{reply_of};
 
 use can::{Bytes, Received};
 use parts::{Answer, Head, Sensor, Sent};
-use text::{Command, Parsed};
+use text::Command;
 use transcript::Reply;
 
 // A line not of its form.
@@ -20,15 +20,19 @@ const NOT_OF_ITS_FORM: u8 = 9;
 // Above every sample that the head takes, and the highest number that its call can be given.
 const HIGHEST: u64 = 0xFFFF_FFFF;
 
-pub fn obey(head: Head, said: Parsed) -> Reply
+pub fn obey(head: Head, said: Option<Command>) -> Reply
     requires { Valid head }
-    ensures { result ≡ reply_of (obeyed head said.bytes said.command) }
+    ensures { result ≡ reply_of (obeyed head said) }
 {
-    let command = said.command;
-    let bytes = said.bytes;
+    let Some(command) = said else {
+        return refuse(head, NOT_OF_ITS_FORM);
+    };
     match command {
-        Command::Malformed => refuse(head, NOT_OF_ITS_FORM),
-        Command::Frame { identifier, length } => receive(head, identifier, length, bytes),
+        Command::Frame {
+            identifier,
+            length,
+            bytes,
+        } => receive(head, identifier, length, bytes),
         Command::Ticks(n) => quiet(tick(head, n)),
         Command::Sample(raw) => sample(head, raw),
         Command::Missing => told(head::sample(head, Sensor::Missing)),

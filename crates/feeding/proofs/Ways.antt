@@ -5,8 +5,7 @@ use mathlib.Core.Path.{◌≡◌, ◌∙◌}
 use borrow.Author.Tests.{eq-eqb, ne_eqb}
 use Rattle.parts.specs.declared.Head.{Head}
 use Rattle.text.specs.Lines.{blank, pushed}
-use Rattle.text.specs.Grammar.{says_line}
-use Rattle.text.specs.declared.Parsed.{Parsed}
+use Rattle.text.specs.Grammar.{Parsed, says_line}
 use Rattle.text.specs.declared.Line.{Line}
 use Rattle.transcript.specs.declared.Reply.{Reply}
 use Rattle.transcript.specs.declared.Session.{Session}
@@ -14,7 +13,7 @@ use Rattle.transcript.specs.Commands.{obeyed}
 use Rattle.transcript.specs.Bytes.{reply_of, answered, session, fed, closing}
 use Rattle.transcript.proofs.Whole.{fed_of}
 
-pub answers : (h : Head) (r : Line) {p : Parsed} {a : Reply} → a ≡ reply_of (obeyed h p.bytes p.command) → p ≡ says_line r
+pub answers : (h : Head) (r : Line) {p : Parsed} {a : Reply} → a ≡ reply_of (obeyed h p) → p ≡ says_line r
     → a ≡ answered h r
 unfolding answered
 answers h r q e = q ∙ rw e

@@ -2,78 +2,58 @@
 
 #![tactic(auto)]
 
-ghost use Rattle.std.specs.Prelude.{◌≡◌, ◌≤◌};
-ghost use Rattle.text.specs.Grammar.{digit_of};
-ghost use Rattle.numbers.specs.Steps.{number_at, closed_by};
+ghost use Rattle.std.specs.Prelude.{◌≡◌, ◌≤◌, ◌==◌, position};
+ghost use Rattle.numbers.specs.Steps.{word, digit_in, number_at};
 
-// `end` is where the field ends.
+// The number in a field, and where the field ends.
 #[derive(Clone, Copy)]
-pub enum Number {
-    Not,
-    Is { value: u64, end: usize },
+pub struct Number {
+    pub value: u64,
+    pub end: usize,
 }
 
-// The value of a byte that is no digit; no base has such a digit.
-const NO_DIGIT: u64 = 16;
-
 // The field that begins at `at`, read as a number of 1 to `most` digits. Ten hex digits fit in 64 bits.
-pub fn read(line: &[u8], at: usize, base: u64, most: usize) -> Number
+pub fn read(line: &[u8], at: usize, base: u64, most: usize) -> Option<Number>
     requires { (base ≤ 16) × (most ≤ 10) }
     ensures { result ≡ number_at base most line.now at }
 {
+    let field = word(line.get(at..)?);
+    if field.is_empty() || most < field.len() {
+        return None;
+    }
     let mut value: u64 = 0;
-    let mut digits: usize = 0;
-    let mut end = at;
-    while end < line.len() {
-        let byte = line[end];
-        if byte == b' ' {
-            return closed(value, digits, end);
-        }
-        let next = digit(byte);
-        if base <= next {
-            return Number::Not;
-        }
-        if most <= digits {
-            return Number::Not;
-        }
-        value = value * base + next;
-        digits += 1;
-        end += 1;
+    for byte in field {
+        value = value * base + digit(*byte, base)?;
     }
-    closed(value, digits, end)
+    Some(Number {
+        value,
+        end: at + field.len(),
+    })
 }
 
-// The number of a field that ends here; a field without digits is no number.
-fn closed(value: u64, digits: usize, end: usize) -> Number
-    ensures { result ≡ closed_by value digits end }
+// What stands before the first space.
+fn word(rest: &[u8]) -> &[u8]
+    ensures { result.now ≡ word rest.now }
 {
-    if digits == 0 {
-        return Number::Not;
-    }
-    Number::Is { value, end }
+    &rest[..space(rest).unwrap_or(rest.len())]
 }
 
-// Hex digits of either case.
-fn digit(byte: u8) -> u64
-    ensures { result ≡ digit_of byte }
+fn space(rest: &[u8]) -> Option<usize>
+    ensures { result ≡ position (λ byte. byte == 32) rest.now }
 {
-    if byte < b'0' {
-        return NO_DIGIT;
-    }
-    if byte <= b'9' {
-        return (byte - b'0') as u64;
-    }
-    if byte < b'A' {
-        return NO_DIGIT;
-    }
-    if byte <= b'F' {
-        return (byte - b'A' + 10) as u64;
-    }
-    if byte < b'a' {
-        return NO_DIGIT;
-    }
-    if byte <= b'f' {
-        return (byte - b'a' + 10) as u64;
-    }
-    NO_DIGIT
+    rest.iter().position(|byte| *byte == b' ')
+}
+
+// Hex digits of either case, below the base.
+fn digit(byte: u8, base: u64) -> Option<u64>
+    requires { base ≤ 16 }
+    ensures { result ≡ digit_in base byte }
+{
+    let value = match byte {
+        b'0'..=b'9' => byte - b'0',
+        b'A'..=b'F' => byte - b'A' + 10,
+        b'a'..=b'f' => byte - b'a' + 10,
+        _ => return None,
+    };
+    Some(value as u64).filter(|digit| *digit < base)
 }

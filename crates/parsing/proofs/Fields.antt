@@ -1,9 +1,10 @@
 -- The fields of a line, one after another, and what a number that was read says about them. Assumes nothing.
-use mathlib.Core.Path.{◌≡◌, refl, ap}
-use mathlib.Core.Bool.{Bool, true, false, cond}
+use mathlib.Core.Path.{◌≡◌, refl, ap, sym}
+use mathlib.Core.Bool.{true, false, cond}
 use mathlib.Core.List.{List, [], ◌∷◌}
 use Prim.Native.Nat.{ℕ, suc, ◌+◌, ◌^◌, ◌≤◌, ◌<◌, ◌-◌}
 use Prim.Native.Char.{code}
+use native.Mathlib.Numerals.{add-one}
 use native.Mathlib.Omega.{arith}
 use lib.Dec.{eqb, ltb}
 use lib.ListN.{length, drop, length-drop}
@@ -12,8 +13,11 @@ use Rattle.cases.proofs.Cases.{test}
 use borrow.Author.Tests.{lt-ltb, le-ltb, ltb-true, ltb-false}
 use Rattle.text.specs.Grammar.{fields, value, is_number}
 use Rattle.numbers.specs.Steps.{word, number_at}
-use Rattle.parsing.specs.Steps.{behind}
-use Rattle.numbers.specs.declared.Number.TheVariants.{Is, Not}
+use Rattle.parsing.specs.Steps.{behind, next_at}
+use Rattle.numbers.specs.declared.Number.{Number}
+use Rattle.std.specs.Prelude.{None, Some}
+use Rattle.std.proofs.lemmas.Option.{none-some, cond_some}
+use Rattle.numbers.proofs.Reading.{no_value}
 use Rattle.text.proofs.Numbers.{number_below}
 
 -- the fields behind the first
@@ -61,38 +65,46 @@ fields_at l at =
     let h : length l ≤ at + length w = ltb-false _ _ e in
     rw (fields_word (drop at l), e, others_none (drop at l) (omega arith)))
 
--- a number that was read
-pub record Numbered (base most : ℕ) (l : List ℕ) (at v e : ℕ) : Type 0 where
-  pub good : is_number base most (word (drop at l)) ≡ true
-  pub val : v ≡ value base (word (drop at l))
-  pub end : e ≡ at + length (word (drop at l))
+-- a number that was read from the first of these fields, which begins at `at`
+pub record Numbered (base most : ℕ) (l : List ℕ) (fs : List (List ℕ)) (at : ℕ) (n : Number) : Type 0 where
+  pub field : List ℕ
+  pub split : fs ≡ field ∷ behind l n.end
+  pub good : is_number base most field ≡ true
+  pub val : n.value ≡ value base field
+  pub end : n.end ≡ at + length field
 
-taken : (t : Bool) (v e a b : ℕ) → Is v e ≡ cond t (Is a b) Not → (t ≡ true) × (v ≡ a) × (e ≡ b)
-taken true v e a b p = (refl, cc, cc)
-taken false v e a b p = let z : ◌≡◌ {A = ℕ} 0 1 = cc in absurd (omega arith)
+pub numbered : (base most : ℕ) (l : List ℕ) (at : ℕ) (n : Number) → Some n ≡ number_at base most l at
+    → Numbered base most l (fields (drop at l)) at n
+numbered base most l at n e =
+    let (good, same) = cond_some _ _ n (sym e) in
+    rw (← same) (record { field = word (drop at l); split = fields_at l at; good = good; val = refl; end = refl })
 
-pub numbered : (base most : ℕ) (l : List ℕ) (at v e : ℕ) → Is v e ≡ number_at base most l at → Numbered base most l at v e
-numbered base most l at v e p =
-    let q = taken (is_number base most (word (drop at l))) v e _ _ p in
-    record { good = q.0; val = q.1; end = q.2 }
+pub numbered_next : (base most : ℕ) (l : List ℕ) (p : ℕ) (n : Number) → Some n ≡ next_at base most l p
+    → Numbered base most l (behind l p) (p + 1) n
+numbered_next base most l p n e =
+    test (ltb p (length l))
+    (λ t. rw (t, add-one p) (numbered base most l (suc p) n (rw t at e)))
+    (λ t. absurd (none-some n (sym (rw t at e))))
 
-refused : (t : Bool) (a b : ℕ) → Not ≡ cond t (Is a b) Not → t ≡ false
-refused true a b p = let z : ◌≡◌ {A = ℕ} 0 1 = cc in absurd (omega arith)
-refused false a b p = refl
+pub bounded : {base most at : ℕ} {l : List ℕ} {fs : List (List ℕ)} {n : Number} → Numbered base most l fs at n → 0 < base → n.value < base ^ most
+bounded {base} {most} w h = rw w.val (number_below base most w.field h w.good)
 
-pub no_number : (base most : ℕ) (l : List ℕ) (at : ℕ) → Not ≡ number_at base most l at → is_number base most (word (drop at l)) ≡ false
-no_number base most l at p = refused (is_number base most (word (drop at l))) _ _ p
+-- the first of these fields, if there is one, is no number
+abbrev pub Unread : ℕ → ℕ → List (List ℕ) → Type 0
+Unread base most [] = Unit {0}
+Unread base most (w ∷ ws) = is_number base most w ≡ false
 
--- what stands at a number and behind it
-module _ {base most at v e : ℕ} {l : List ℕ} (w : Numbered base most l at v e) where
-  pub fields_of : fields (drop at l) ≡ word (drop at l) ∷ behind l e
-  fields_of = rw (fields_at l at, w.end)
+pub unread : (base most : ℕ) (l : List ℕ) (at : ℕ) → None ≡ number_at base most l at → Unread base most (fields (drop at l))
+unread base most l at e = rw (fields_word (drop at l)) (no_value _ _ e)
 
-  pub fields_last : length l ≤ e → fields (drop at l) ≡ word (drop at l) ∷ []
-  fields_last h = rw (fields_of, le-ltb e (length l) h)
+pub unread_next : (base most : ℕ) (l : List ℕ) (p : ℕ) → None ≡ next_at base most l p → Unread base most (behind l p)
+unread_next base most l p e =
+    test (ltb p (length l))
+    (λ t. rw t (unread base most l (suc p) (rw t at e)))
+    (λ t. rw t tt)
 
-  pub fields_more : e < length l → fields (drop at l) ≡ word (drop at l) ∷ fields (drop (suc e) l)
-  fields_more h = rw (fields_of, lt-ltb e (length l) h)
+pub behind_none : (l : List ℕ) (p : ℕ) → length l ≤ p → behind l p ≡ []
+behind_none l p h = rw (le-ltb p (length l) h)
 
-  pub bounded : 0 < base → v < base ^ most
-  bounded h = rw w.val (number_below base most (word (drop at l)) h w.good)
+pub behind_some : (l : List ℕ) (p : ℕ) → p < length l → behind l p ≡ word (drop (suc p) l) ∷ others (drop (suc p) l)
+behind_some l p h = rw (lt-ltb p (length l) h) (fields_word (drop (suc p) l))

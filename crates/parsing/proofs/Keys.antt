@@ -1,53 +1,51 @@
--- Laws for each return of `parse` and `parse_line`, by the length of the line, its second byte and its key. Assumes nothing.
+-- Laws for each return of `parse`, by the length of the line, its second byte and its key. Assumes nothing.
 use mathlib.Core.Path.{◌≡◌, refl, sym, ap, ◌∙◌}
-use mathlib.Core.Bool.{Bool, true, false, ◌&&◌, cond, and-false}
+use mathlib.Core.Bool.{Bool, true, ◌&&◌, cond, and-false}
 use mathlib.Core.List.{List, [], ◌∷◌}
-use Prim.Native.Nat.{ℕ}
+use Prim.Native.Nat.{ℕ, ◌-◌, ◌≤◌, ◌<◌}
 use Prim.Native.Char.{code}
 use native.Mathlib.Omega.{arith}
 use lib.Dec.{eqb}
-use lib.ListN.{length, take, drop, get_or}
-use Rattle.cases.proofs.Cases.{test, by}
-use borrow.Author.Tests.{ne_eqb}
-use Rattle.text.specs.Lines.{at_most, longest}
-use Rattle.text.specs.Grammar.{fields, only, malformed, frame_of, ticks_of, sample_of, parsed, says_line}
+use lib.ListN.{length, get_or}
+use lib.Seq.{take_all}
+use Rattle.std.specs.List.{slice_range}
+use Rattle.cases.proofs.Cases.{test, by, true_false}
+use borrow.Author.Tests.{ne_eqb, eq-eqb, eqb-true}
+use Rattle.text.specs.Grammar.{Parsed, fields, only, malformed, frame_of, ticks_of, sample_of, parsed}
 use Rattle.text.specs.declared.Command.TheVariants.{Slot}
-use Rattle.text.specs.declared.Parsed.{Parsed}
-use Rattle.text.specs.declared.Line.{Line}
 use Rattle.parsing.proofs.Fields.{fields_word}
-use Rattle.text.proofs.Padded.{take_at_most}
 
 -- malformed whatever a test says
 whatever : (t : Bool) {p : Parsed} → malformed ≡ p → malformed ≡ cond t malformed p
 whatever t e = by (λ (p : Parsed). malformed ≡ p) t (λ _. refl) (λ _. e)
 
-pub parse_empty : (l : List ℕ) → length l ≡ 0 → malformed ≡ parsed l
+pub parse_empty : (l : List ℕ) → length l < 1 → malformed ≡ parsed l
 unfolding parsed
 parse_empty [] h = refl
 parse_empty (x ∷ xs) h = absurd (omega arith)
 
-pub parse_slot : (l : List ℕ) → length l ≡ 1 → get_or l 0 0 ≡ code "?" → only Slot ≡ parsed l
+pub parse_slot : (l : List ℕ) → 1 ≤ length l → length l < 2 → get_or l 0 0 ≡ code "?" → only Slot ≡ parsed l
 unfolding parsed
-parse_slot [] h e = absurd (omega arith)
-parse_slot (x ∷ []) h e = rw e
-parse_slot (x ∷ y ∷ l) h e = absurd (omega arith)
+parse_slot [] h k e = absurd (omega arith)
+parse_slot (x ∷ []) h k e = rw e
+parse_slot (x ∷ y ∷ l) h k e = absurd (omega arith)
 
-pub parse_one : (l : List ℕ) → length l ≡ 1 → (get_or l 0 0 ≡ code "?" → ⊥) → malformed ≡ parsed l
+pub parse_one : (l : List ℕ) → 1 ≤ length l → length l < 2 → (get_or l 0 0 ≡ code "?" → ⊥) → malformed ≡ parsed l
 unfolding parsed
-parse_one [] h e = absurd (omega arith)
-parse_one (x ∷ []) h e =
+parse_one [] h k e = absurd (omega arith)
+parse_one (x ∷ []) h k e =
     test (eqb x (code " "))
     (λ q. rw q)
     (λ q.
     rw (q, ne_eqb x (code "?") e)
     (whatever (eqb x (code "F") && true) (whatever (eqb x (code "T") && true) (whatever (eqb x (code "S") && true) refl))))
-parse_one (x ∷ y ∷ l) h e = absurd (omega arith)
+parse_one (x ∷ y ∷ l) h k e = absurd (omega arith)
 
-pub parse_close : (l : List ℕ) → (length l ≡ 0 → ⊥) → (length l ≡ 1 → ⊥) → (get_or l 1 0 ≡ code " " → ⊥) → malformed ≡ parsed l
+pub parse_close : (l : List ℕ) → 2 ≤ length l → (get_or l 1 0 ≡ code " " → ⊥) → malformed ≡ parsed l
 unfolding parsed
-parse_close [] z o e = absurd (z refl)
-parse_close (x ∷ []) z o e = absurd (o refl)
-parse_close (x ∷ y ∷ l) z o e =
+parse_close [] h e = absurd (omega arith)
+parse_close (x ∷ []) h e = absurd (omega arith)
+parse_close (x ∷ y ∷ l) h e =
     rw (ne_eqb _ _ e)
     (test (eqb x (code " "))
     (λ q. rw q)
@@ -61,11 +59,6 @@ parse_close (x ∷ y ∷ l) z o e =
       and-false (eqb x (code "?")),
     )))
 
-two : (l : List ℕ) → (length l ≡ 0 → ⊥) → (length l ≡ 1 → ⊥) → l ≡ get_or l 0 0 ∷ get_or l 1 0 ∷ drop 2 l
-two [] z o = absurd (z refl)
-two (x ∷ []) z o = absurd (o refl)
-two (x ∷ y ∷ l) z o = refl
-
 unkeyed : (x : ℕ) (m : List ℕ) → (x ≡ code "F" → ⊥) → (x ≡ code "T" → ⊥) → (x ≡ code "S" → ⊥) → malformed ≡ parsed (x ∷ code " " ∷ m)
 unfolding parsed
 unkeyed x m f t s =
@@ -75,27 +68,35 @@ unkeyed x m f t s =
     rw (q, ne_eqb x (code "F") f, ne_eqb x (code "T") t, ne_eqb x (code "S") s, fields_word m)
     (whatever (eqb x (code "?") && true) refl))
 
-module _ (l : List ℕ) (z : length l ≡ 0 → ⊥) (o : length l ≡ 1 → ⊥) (e : get_or l 1 0 ≡ code " ") where
-  keyed : {k : ℕ} → get_or l 0 0 ≡ k → l ≡ k ∷ code " " ∷ drop 2 l
-  keyed q = two l z o ∙ rw (q, e)
+pub parse_other : (l : List ℕ) → 2 ≤ length l → (get_or l 0 0 ≡ code "F" → ⊥) → (get_or l 0 0 ≡ code "T" → ⊥) → (get_or l 0 0 ≡ code "S" → ⊥) → malformed ≡ parsed l
+parse_other [] h f t s = absurd (omega arith)
+parse_other (x ∷ []) h f t s = absurd (omega arith)
+parse_other (x ∷ y ∷ l) h f t s =
+    test (eqb y (code " "))
+    (λ e. rw (eqb-true y (code " ") e) (unkeyed x l f t s))
+    (λ e. parse_close (x ∷ y ∷ l) h (λ q. true_false (sym (eq-eqb y (code " ") q) ∙ e)))
 
-  pub parse_F : get_or l 0 0 ≡ code "F" → frame_of (fields (drop 2 l)) ≡ parsed l
+-- what is lent behind the key and its space
+abbrev rest : List ℕ → List ℕ
+rest l = slice_range l 2 (length l)
+
+two : (l : List ℕ) → 2 ≤ length l → l ≡ get_or l 0 0 ∷ get_or l 1 0 ∷ rest l
+two [] h = absurd (omega arith)
+two (x ∷ []) h = absurd (omega arith)
+two (x ∷ y ∷ l) h = ap (λ (m : List ℕ). x ∷ y ∷ m) (sym (take_all (length (x ∷ y ∷ l) - 2) l (omega arith)))
+
+module _ (l : List ℕ) (h : 2 ≤ length l) (e : get_or l 1 0 ≡ code " ") where
+  keyed : {k : ℕ} → get_or l 0 0 ≡ k → l ≡ k ∷ code " " ∷ rest l
+  keyed q = two l h ∙ rw (q, e)
+
+  pub parse_F : {p : Parsed} → get_or l 0 0 ≡ code "F" → p ≡ frame_of (fields (rest l)) → p ≡ parsed l
   unfolding parsed
-  parse_F k = sym (ap parsed (keyed k))
+  parse_F k q = q ∙ sym (ap parsed (keyed k))
 
-  pub parse_T : get_or l 0 0 ≡ code "T" → ticks_of (fields (drop 2 l)) ≡ parsed l
+  pub parse_T : {p : Parsed} → get_or l 0 0 ≡ code "T" → p ≡ ticks_of (fields (rest l)) → p ≡ parsed l
   unfolding parsed
-  parse_T k = sym (ap parsed (keyed k))
+  parse_T k q = q ∙ sym (ap parsed (keyed k))
 
-  pub parse_S : get_or l 0 0 ≡ code "S" → sample_of (fields (drop 2 l)) ≡ parsed l
+  pub parse_S : {p : Parsed} → get_or l 0 0 ≡ code "S" → p ≡ sample_of (fields (rest l)) → p ≡ parsed l
   unfolding parsed
-  parse_S k = sym (ap parsed (keyed k))
-
-  pub parse_other : (get_or l 0 0 ≡ code "F" → ⊥) → (get_or l 0 0 ≡ code "T" → ⊥) → (get_or l 0 0 ≡ code "S" → ⊥) → malformed ≡ parsed l
-  unfolding parsed
-  parse_other f t s = unkeyed (get_or l 0 0) (drop 2 l) f t s ∙ sym (ap parsed (keyed refl))
-
--- a gathered line, by the bytes that are lent
-pub short_line : (r : Line) {n : ℕ} {p : Parsed} → length r.bytes ≡ longest → r.long ≡ false
-    → n ≡ at_most longest r.len → p ≡ parsed (take n r.bytes) → p ≡ says_line r
-short_line r h f e q = q ∙ rw (f, e, take_at_most longest r.len r.bytes h)
+  parse_S k q = q ∙ sym (ap parsed (keyed k))

@@ -1,4 +1,4 @@
 pub mod Fields
-pub mod Pairs
 pub mod Forms
 pub mod Keys
+pub mod Pairs

@@ -1,14 +1,10 @@
 //! The forms of a line: what comes after `F `, `T ` and `S `.
-ghost use Rattle.std.specs.Prelude.{◌≡◌, drop};
-ghost use Rattle.text.specs.Ascii.{ascii};
-ghost use Rattle.text.specs.Grammar.{fields, same, only, malformed as notOfItsForm, pairs_for, framed, frame_of, ticks_of, sample_of};
-ghost use Rattle.parsing.specs.Steps.{behind};
+ghost use Rattle.std.specs.Prelude.{◌≡◌, ◌≤◌};
+ghost use Rattle.text.specs.Grammar.{fields, pairs_for, framed, frame_of, ticks_of, sample_of};
+ghost use Rattle.parsing.specs.Steps.{behind, next_at, lone};
 
 use numbers::Number;
-use text::{Command, Parsed};
-
-// Where the first field starts, after the key and a space.
-const FIRST: usize = 2;
+use text::Command;
 
 const HEX: u64 = 16;
 
@@ -30,58 +26,41 @@ const MOST_TICKS: u64 = 1_000;
 
 const MOST_BYTES: usize = 8;
 
-pub fn frame(line: &[u8]) -> Parsed
-    ensures { result ≡ frame_of (fields (drop 2 line.now)) }
+pub fn frame(line: &[u8]) -> Option<Command>
+    ensures { result ≡ frame_of (fields line.now) }
 {
-    let Number::Is {
-        value: identifier,
-        end,
-    } = numbers::read(line, FIRST, HEX, IDENTIFIER_DIGITS)
-    else {
-        return malformed();
-    };
-    if line.len() <= end {
-        return malformed();
-    }
-    let Number::Is {
-        value: length,
-        end: before,
-    } = numbers::read(line, end + 1, DECIMAL, LENGTH_DIGITS)
-    else {
-        return malformed();
-    };
-    pairs(line, before, identifier as u32, length as u8)
+    let identifier = numbers::read(line, 0, HEX, IDENTIFIER_DIGITS)?;
+    let length = next(line, identifier.end, DECIMAL, LENGTH_DIGITS)?;
+    pairs(
+        line,
+        length.end,
+        identifier.value as u32,
+        length.value as u8,
+    )
 }
 
 // The frame whose bytes come after a length that ends at `before`.
-fn pairs(line: &[u8], before: usize, identifier: u32, length: u8) -> Parsed
+fn pairs(line: &[u8], before: usize, identifier: u32, length: u8) -> Option<Command>
     ensures { result ≡ framed identifier length (behind line.now before) }
 {
-    let count = pairs_for(length);
     let mut bytes = [0u8; MOST_BYTES];
     let mut at = before;
-    let mut done: usize = 0;
-    while done < count {
-        if line.len() <= at {
-            return malformed();
+    for byte in &mut bytes[..pairs_for(length)] {
+        let pair = next(line, at, HEX, PAIR_DIGITS)?;
+        if pair.end != at + 1 + PAIR_DIGITS {
+            return None;
         }
-        let Number::Is { value, end } = numbers::read(line, at + 1, HEX, PAIR_DIGITS) else {
-            return malformed();
-        };
-        if end != at + 1 + PAIR_DIGITS {
-            return malformed();
-        }
-        bytes[done] = value as u8;
-        at = end;
-        done += 1;
+        *byte = pair.value as u8;
+        at = pair.end;
     }
     if at < line.len() {
-        return malformed();
+        return None;
     }
-    Parsed {
-        command: Command::Frame { identifier, length },
+    Some(Command::Frame {
+        identifier,
+        length,
         bytes,
-    }
+    })
 }
 
 // As many as the length says, but 8 if it is 9.
@@ -91,60 +70,44 @@ pub fn pairs_for(length: u8) -> usize
     lines::at_most(MOST_BYTES, length as usize)
 }
 
-pub fn ticks(line: &[u8]) -> Parsed
-    ensures { result ≡ ticks_of (fields (drop 2 line.now)) }
+pub fn ticks(line: &[u8]) -> Option<Command>
+    ensures { result ≡ ticks_of (fields line.now) }
 {
-    let Number::Is { value, end } = numbers::read(line, FIRST, DECIMAL, TICKS_DIGITS) else {
-        return malformed();
-    };
-    if end < line.len() {
-        return malformed();
+    let count = lone(line, TICKS_DIGITS)?;
+    if count < FEWEST_TICKS || MOST_TICKS < count {
+        return None;
     }
-    if value < FEWEST_TICKS {
-        return malformed();
-    }
-    if MOST_TICKS < value {
-        return malformed();
-    }
-    plain(Command::Ticks(value as u16))
+    Some(Command::Ticks(count as u16))
 }
 
-pub fn sample(line: &[u8]) -> Parsed
-    ensures { result ≡ sample_of (fields (drop 2 line.now)) }
+pub fn sample(line: &[u8]) -> Option<Command>
+    ensures { result ≡ sample_of (fields line.now) }
 {
-    if minus(line) {
-        return plain(Command::Missing);
+    if line == b"-".as_slice() {
+        return Some(Command::Missing);
     }
-    let Number::Is { value, end } = numbers::read(line, FIRST, DECIMAL, SAMPLE_DIGITS) else {
-        return malformed();
-    };
-    if end < line.len() {
-        return malformed();
-    }
-    plain(Command::Sample(value))
+    Some(Command::Sample(lone(line, SAMPLE_DIGITS)?))
 }
 
-// Whether `-` is all that comes after the key.
-fn minus(line: &[u8]) -> bool
-    ensures { result ≡ same (drop 2 line.now) (ascii "-") }
+// The number in the field behind one that ends at `end`.
+fn next(line: &[u8], end: usize, base: u64, most: usize) -> Option<Number>
+    requires { (base ≤ 16) × (most ≤ 10) }
+    ensures { result ≡ next_at base most line.now end }
 {
-    if line.len() != FIRST + 1 {
-        return false;
+    if line.len() <= end {
+        return None;
     }
-    line[FIRST] == b'-'
+    numbers::read(line, end + 1, base, most)
 }
 
-pub fn plain(command: Command) -> Parsed
-    ensures { result ≡ only command }
+// The number in the only field.
+fn lone(line: &[u8], most: usize) -> Option<u64>
+    requires { most ≤ 10 }
+    ensures { result ≡ lone most (fields line.now) }
 {
-    Parsed {
-        command,
-        bytes: [0u8; MOST_BYTES],
+    let number = numbers::read(line, 0, DECIMAL, most)?;
+    if number.end < line.len() {
+        return None;
     }
-}
-
-pub fn malformed() -> Parsed
-    ensures { result ≡ notOfItsForm }
-{
-    plain(Command::Malformed)
+    Some(number.value)
 }

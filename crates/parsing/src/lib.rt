@@ -5,16 +5,16 @@
 ghost use Rattle.std.specs.Prelude.{◌≡◌};
 ghost use Rattle.text.specs.Grammar.{parsed, says_line};
 
-use text::{Command, Line, Parsed};
+use text::{Command, Line};
 
 mod form;
 
 // What a gathered line says. A line that is too long is not of its form, whatever its first bytes are.
-pub fn parse_line(line: Line) -> Parsed
+pub fn parse_line(line: Line) -> Option<Command>
     ensures { result ≡ says_line line }
 {
     if line.long {
-        return form::malformed();
+        return None;
     }
     let len = lines::kept(line);
     let bytes = line.bytes;
@@ -22,30 +22,14 @@ pub fn parse_line(line: Line) -> Parsed
 }
 
 // What a line says; its end, 0Ah, is no part of it.
-pub fn parse(line: &[u8]) -> Parsed
+pub fn parse(line: &[u8]) -> Option<Command>
     ensures { result ≡ parsed line.now }
 {
-    if line.len() == 0 {
-        return form::malformed();
+    match line {
+        [b'F', b' ', fields @ ..] => form::frame(fields),
+        [b'T', b' ', fields @ ..] => form::ticks(fields),
+        [b'S', b' ', fields @ ..] => form::sample(fields),
+        [b'?'] => Some(Command::Slot),
+        _ => None,
     }
-    let key = line[0];
-    if line.len() == 1 {
-        if key == b'?' {
-            return form::plain(Command::Slot);
-        }
-        return form::malformed();
-    }
-    if line[1] != b' ' {
-        return form::malformed();
-    }
-    if key == b'F' {
-        return form::frame(line);
-    }
-    if key == b'T' {
-        return form::ticks(line);
-    }
-    if key == b'S' {
-        return form::sample(line);
-    }
-    form::malformed()
 }

@@ -9,14 +9,13 @@ use Rattle.cases.specs.Tests.{within}
 use Rattle.cases.proofs.Cases.{by, both, first_each, ◌▸◌, end}
 use borrow.Author.Tests.{leb-true}
 use Rattle.text.specs.Ascii.{ascii}
-use Rattle.text.specs.Grammar.{hex, decimal, fields, same, malformed, value, is_number, is_pair, all, pairs_for}
+use Rattle.text.specs.Grammar.{Parsed, hex, decimal, fields, same, malformed, value, is_number, is_pair, all, pairs_for}
 use Rattle.text.specs.Grammar.{frame_of, ticks_of, sample_of, slot_of, command, parsed}
 use Rattle.text.specs.Laws.{Within}
-use Rattle.text.specs.declared.Parsed.{Parsed}
 use Rattle.text.proofs.Numbers.{number_below}
 
 abbrev Good : Parsed → Type 0
-Good p = Within p.command
+Good p = Within p
 
 frame_good : (fs : List (List ℕ)) → Good (frame_of fs)
 frame_good [] = tt
@@ -66,6 +65,6 @@ command_good (key ∷ fs) =
     (frame_good fs ▸ ticks_good fs ▸ sample_good fs ▸ slot_good fs ▸ end)
     tt
 
-pub in_bounds : (l : List ℕ) → Within (parsed l).command
+pub in_bounds : (l : List ℕ) → Within (parsed l)
 unfolding parsed
 in_bounds l = command_good (fields l)

@@ -73,13 +73,13 @@ pub record Read (base n : ℕ) (w : List ℕ) (v : ℕ) : Type 0 where
   pub long : length w ≡ n
   pub number : value base w ≡ v
 
-digits_more : (base : ℕ) (w : List ℕ) (x : ℕ) → digits base w ≡ true → ltb (digit_of x) base ≡ true → digits base (w ++ x ∷ []) ≡ true
+pub digits_more : (base : ℕ) (w : List ℕ) (x : ℕ) → digits base w ≡ true → ltb (digit_of x) base ≡ true → digits base (w ++ x ∷ []) ≡ true
 digits_more base [] x e h = rw h
 digits_more base (y ∷ w) x e h =
     let (a, b) = both (ltb (digit_of y) base) (digits base w) e in
     rw (a, digits_more base w x b h)
 
-value_more : (base v : ℕ) (w : List ℕ) (x : ℕ) → value_from base v (w ++ x ∷ []) ≡ value_from base v w * base + digit_of x
+pub value_more : (base v : ℕ) (w : List ℕ) (x : ℕ) → value_from base v (w ++ x ∷ []) ≡ value_from base v w * base + digit_of x
 value_more base v [] x = refl
 value_more base v (y ∷ w) x = value_more base (v * base + digit_of y) w x
 

@@ -6,17 +6,18 @@ use Prim.Native.Nat.{ℕ, ◌^◌, ◌≤◌, ◌<◌}
 use native.Mathlib.Omega.{arith}
 use lib.Dec.{eqb, leb, ltb}
 use lib.ListN.{length}
+use Rattle.std.specs.Prelude.{Some}
 use Rattle.cases.specs.Tests.{within}
 use Rattle.cases.proofs.Cases.{by, both, test, true_false}
 use borrow.Author.Tests.{le-leb, eq-eqb, eqb-true, leb-true, ltb-true, ltb-false}
 use Rattle.text.specs.Ascii.{ascii}
-use Rattle.text.specs.Grammar.{hex, decimal, fields, same, made, malformed, digits, value, is_number, is_pair, all, pairs_for}
+use Rattle.text.specs.Grammar.{Parsed, hex, decimal, fields, same, made, malformed, digits, value, is_number, is_pair, all, pairs_for}
 use Rattle.text.specs.Grammar.{frame_of, ticks_of, sample_of, slot_of, command, parsed}
-use Rattle.text.specs.Forms.{Number, behind, parted, Pairs, Form, frame, nine, ticks, sample, missing, slot}
+use Rattle.text.specs.Forms.{Number, behind, parted, Pairs, filled, Form, frame, nine, ticks, sample, missing, slot}
 use Rattle.text.specs.declared.Command.{Command}
 use Rattle.text.specs.declared.Command.TheVariants.{Frame, Missing}
-use Rattle.text.specs.declared.Parsed.{Parsed}
 use Rattle.text.proofs.Numbers.{number_below}
+use Rattle.text.proofs.Padded.{pad_behind}
 use Rattle.text.proofs.Digits.{number_is, number_of}
 use Rattle.text.proofs.Fields.{parted_fields, word_fields, pairs_are, pairs_of}
 
@@ -33,7 +34,7 @@ last_field : {base n v : ℕ} {w : List ℕ} → base ≤ 16 → Number base n w
 last_field {base} {w = w} few p = word_fields base w [] few (number_is p).right refl
 
 module _ {n id len : ℕ} {i l bytes : List ℕ} {pairs : List (List ℕ)} (count : ℕ) where
-  frame_formed : Number 16 n i id → 1 ≤ n → n ≤ 8 → Number 10 1 l len → pairs_for len ≡ count → Pairs count pairs bytes
+  pub frame_formed : Number 16 n i id → 1 ≤ n → n ≤ 8 → Number 10 1 l len → pairs_for len ≡ count → Pairs count pairs bytes
       → parsed (parted (ascii "F" ∷ i ∷ l ∷ pairs)) ≡ made (Frame id len) bytes
   unfolding parsed
   frame_formed p a b q e ps =
@@ -51,10 +52,15 @@ module _ {n id len : ℕ} {i l bytes : List ℕ} {pairs : List (List ℕ)} (coun
       )
       (ap (made (Frame id len)) rs.numbers)
 
-pub formed : {fs : List (List ℕ)} {bytes : List ℕ} {c : Command} → Form fs c bytes → parsed (parted fs) ≡ made c bytes
+-- a frame's bytes, at most 8, are filled
+fill : (id len : ℕ) (bytes : List ℕ) → length bytes ≤ 8 → made (Frame id len) bytes ≡ Some (Frame id len (filled bytes))
+fill id len bytes h = ap (λ (b : List ℕ). Some (Frame id len b)) (pad_behind 8 bytes h)
+
+pub formed : {fs : List (List ℕ)} {c : Command} → Form fs c → parsed (parted fs) ≡ Some c
 unfolding parsed
-formed (frame {len = len} p a b q h ps) = frame_formed len p a b q (pairs_for_law len h) ps
-formed (nine p a b q ps) = frame_formed 8 p a b q refl ps
+formed (frame {len = len} p a b q h ps) =
+    frame_formed len p a b q (pairs_for_law len h) ps ∙ fill _ _ _ (omega (arith, (pairs_are ps).as_many))
+formed (nine p a b q ps) = frame_formed 8 p a b q refl ps ∙ fill _ _ _ (omega (arith, (pairs_are ps).as_many))
 formed (ticks {t = t} p a b low high) =
     ap ticks_of (last_field (omega arith) p) ∙ rw (is_number_law 4 p a b, (number_is p).number, le-leb 1 t low, le-leb t 1000 high)
 formed (sample p a b) = ap sample_of (last_field (omega arith) p) ∙ rw (is_number_law 10 p a b, (number_is p).number)
@@ -71,7 +77,7 @@ a_number base most w few e =
 
 -- no form has these fields
 Formless : List (List ℕ) → Type 0
-Formless fs = (c : Command) (bytes : List ℕ) → Form fs c bytes → ⊥
+Formless fs = (c : Command) → Form fs c → ⊥
 
 -- then the grammar says so
 abbrev Refused : Parsed → Type 0
@@ -98,10 +104,10 @@ frame_formless (i ∷ l ∷ pairs) bar =
     test (ltb len 9)
     (λ g.
     let h : len ≤ 8 = omega (arith, ltb-true) in
-    absurd (bar _ _ (frame p a b q h (rw (pairs_for_law len h) at ps))))
+    absurd (bar _ (frame p a b q h (rw (pairs_for_law len h) at ps))))
     (λ g.
     let h : len ≡ 9 = omega (arith, ltb-false) in
-    absurd (bar _ _ (nine p a b (rw h at q) (rw h at ps)))))
+    absurd (bar _ (nine p a b (rw h at q) (rw h at ps)))))
     (λ _. refl))
     (λ _. refl)
 
@@ -114,7 +120,7 @@ ticks_formless (w ∷ []) bar =
     let (first, second) = both (is_number decimal 4 w) (within 1 1000 (value decimal w)) e in
     let (p, a, b) = a_number decimal 4 w (omega arith) first in
     let (low, high) = both (leb 1 (value decimal w)) (leb (value decimal w) 1000) second in
-    absurd (bar _ _ (ticks p a b (leb-true _ _ low) (leb-true _ _ high))))
+    absurd (bar _ (ticks p a b (leb-true _ _ low) (leb-true _ _ high))))
     (λ _. refl)
 ticks_formless (w ∷ more ∷ fs) bar = refl
 
@@ -131,13 +137,13 @@ unfolding Formless
 sample_formless [] bar = refl
 sample_formless (w ∷ []) bar =
     by Refused (is_number decimal 10 w)
-    (λ e. let (p, a, b) = a_number decimal 10 w (omega arith) e in absurd (bar _ _ (sample p a b)))
-    (λ _. by Refused (same w (ascii "-")) (λ e. absurd (bar Missing [] (rw (same_is w (ascii "-") e) missing))) (λ _. refl))
+    (λ e. let (p, a, b) = a_number decimal 10 w (omega arith) e in absurd (bar _ (sample p a b)))
+    (λ _. by Refused (same w (ascii "-")) (λ e. absurd (bar Missing (rw (same_is w (ascii "-") e) missing))) (λ _. refl))
 sample_formless (w ∷ more ∷ fs) bar = refl
 
 slot_formless : (fs : List (List ℕ)) → Formless (ascii "?" ∷ fs) → Refused (slot_of fs)
 unfolding Formless
-slot_formless [] bar = absurd (bar _ _ slot)
+slot_formless [] bar = absurd (bar _ slot)
 slot_formless (more ∷ fs) bar = refl
 
 command_formless : (fs : List (List ℕ)) → Formless fs → Refused (command fs)
@@ -154,7 +160,6 @@ command_formless (key ∷ fs) bar =
     (λ e. sample_formless fs (keyed (ascii "S") e))
     (λ _. by Refused (same key (ascii "?")) (λ e. slot_formless fs (keyed (ascii "?") e)) (λ _. refl))))
 
-pub unformed : (l : List ℕ) → ((fs : List (List ℕ)) (c : Command) (bytes : List ℕ) → Form fs c bytes → parted fs ≡ l → ⊥)
-    → parsed l ≡ malformed
+pub unformed : (l : List ℕ) → ((fs : List (List ℕ)) (c : Command) → Form fs c → parted fs ≡ l → ⊥) → parsed l ≡ malformed
 unfolding parsed Formless
-unformed l bar = command_formless (fields l) (λ c bytes f. bar (fields l) c bytes f (parted_fields l))
+unformed l bar = command_formless (fields l) (λ c f. bar (fields l) c f (parted_fields l))

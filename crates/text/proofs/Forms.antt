@@ -1,5 +1,5 @@
 -- Proves `Forms` of specs/Forms.antt. Assumes nothing.
-use mathlib.Core.Path.{◌≡◌, refl}
+use mathlib.Core.Path.{◌≡◌, refl, ◌∙◌}
 use mathlib.Core.List.{List, [], ◌∷◌, ◌++◌}
 use Prim.Native.Nat.{ℕ, ◌+◌, ◌*◌, ◌/◌, ◌%◌, ◌≤◌, ◌<◌}
 use native.Mathlib.Omega.{arith}
@@ -9,14 +9,11 @@ use Rattle.cases.proofs.Cases.{test}
 use borrow.Author.Tests.{lt-ltb, le-ltb, ltb-true, ltb-false, ne_eqb}
 use Rattle.text.specs.Ascii.{ascii}
 use Rattle.text.specs.Lines.{lines}
-use Rattle.text.specs.Grammar.{made, parsed}
+use Rattle.text.specs.Grammar.{malformed, parsed, says}
 use Rattle.text.specs.Printed.{refusal_text}
-use Rattle.text.specs.Forms.{Number, behind, parted, Pairs, none, more, Form, frame, nine, ticks, sample, missing, slot, Says, Without, Forms}
+use Rattle.text.specs.Forms.{Number, behind, parted, Pairs, none, more, Form, frame, nine, ticks, sample, missing, slot, Without, Forms}
 use Rattle.text.specs.declared.Command.{Command}
-use Rattle.text.specs.declared.Command.TheVariants.{Malformed}
-use Rattle.text.proofs.Padded.{pad_behind}
 use Rattle.text.proofs.Digits.{number_is}
-use Rattle.text.proofs.Fields.{pairs_are}
 use Rattle.text.proofs.Formed.{formed, unformed}
 use Rattle.text.proofs.Roundtrip.{shown}
 
@@ -27,14 +24,6 @@ ended (x ∷ l) rest h = rw (ne_eqb x 0x0A h.0, ended l rest h.1)
 last : (b : ℕ) (l : List ℕ) → Without 0x0A (b ∷ l) → lines (b ∷ l) ≡ (b ∷ l) ∷ []
 last b [] h = rw (ne_eqb b 0x0A h.0)
 last b (c ∷ l) h = rw (ne_eqb b 0x0A h.0, last c l h.1)
-
-few_bytes : {fs : List (List ℕ)} {bytes : List ℕ} {c : Command} → Form fs c bytes → length bytes ≤ 8
-few_bytes (frame p a b q h ps) = omega (arith, (pairs_are ps).as_many)
-few_bytes (nine p a b q ps) = omega (arith, (pairs_are ps).as_many)
-few_bytes (ticks p a b low high) = omega arith
-few_bytes (sample p a b) = omega arith
-few_bytes missing = omega arith
-few_bytes slot = omega arith
 
 pairs_short : {n : ℕ} {pairs : List (List ℕ)} {bytes : List ℕ} → Pairs n pairs bytes → length (behind pairs) ≡ 3 * n
 pairs_short none = refl
@@ -53,7 +42,7 @@ frame_short {i = i} {l = l} {pairs = pairs} p a q ps b =
     )
 
 -- every form has at most 64 bytes
-short : {fs : List (List ℕ)} {bytes : List ℕ} {c : Command} → Form fs c bytes → length (parted fs) ≤ 64
+short : {fs : List (List ℕ)} {c : Command} → Form fs c → length (parted fs) ≤ 64
 short (frame p a b q h ps) = frame_short p b q ps h
 short (nine p a b q ps) = frame_short p b q ps (omega arith)
 short (ticks {w = w} p a b low high) = omega (arith, length-append w [], (number_is p).long)
@@ -61,11 +50,11 @@ short (sample {w = w} p a b) = omega (arith, length-append w [], (number_is p).l
 short missing = omega arith
 short slot = omega arith
 
-says_made : {c : Command} (l bytes : List ℕ) → length l ≤ 64 → length bytes ≤ 8 → parsed l ≡ made c bytes → Says l c bytes
-says_made l bytes h n e = (rw (le-ltb 64 (length l) h, e), rw (le-ltb 64 (length l) h, e) (pad_behind 8 bytes n))
+says_parsed : (l : List ℕ) → length l ≤ 64 → says l ≡ parsed l
+says_parsed l h = rw (le-ltb 64 (length l) h)
 
-longer : (l : List ℕ) → 64 < length l → Says l Malformed []
-longer l h = (rw (lt-ltb 64 (length l) h), rw (lt-ltb 64 (length l) h))
+longer : (l : List ℕ) → 64 < length l → says l ≡ malformed
+longer l h = rw (lt-ltb 64 (length l) h)
 
 refusal : (n : ℕ) → n ≤ 9 → refusal_text n ≡ 0x45 ∷ 0x20 ∷ (0x30 + n) ∷ 0x0A ∷ []
 unfolding refusal_text
@@ -79,12 +68,12 @@ forms =
       ended = ended;
       last = last;
       no_more = refl;
-      formed = λ {fs} {bytes} f. says_made (parted fs) bytes (short f) (few_bytes f) (formed f);
+      formed = λ {fs} f. says_parsed (parted fs) (short f) ∙ formed f;
       unformed =
           λ l bar.
           test (ltb 64 (length l))
           (λ e. longer l (omega (arith, ltb-true)))
-          (λ e. says_made l [] (ltb-false _ _ e) (omega arith) (unformed l bar));
+          (λ e. says_parsed l (ltb-false _ _ e) ∙ unformed l bar);
       longer = longer;
       shown = shown;
       none = refl;

@@ -17,10 +17,10 @@ use Rattle.text.specs.Ascii.{ascii}
 use Rattle.text.specs.Lines.{lines, longest}
 use Rattle.text.specs.Grammar.{made, parsed}
 use Rattle.text.specs.Printed.{digit_at, pairs_text, frame_shown, frame_text}
-use Rattle.text.specs.Forms.{Number, behind, parted, Pairs, none, more, frame, Capitals, Shown}
+use Rattle.text.specs.Forms.{Number, behind, parted, Pairs, none, more, Capitals, Shown}
 use Rattle.text.specs.declared.Command.TheVariants.{Frame}
 use Rattle.text.proofs.Digits.{hex_digit}
-use Rattle.text.proofs.Formed.{formed}
+use Rattle.text.proofs.Formed.{frame_formed, pairs_for_law}
 
 below : (weight x : ℕ) → x / weight % 16 < 16
 below weight x = mod-lt (x / weight) (omega arith)
@@ -147,7 +147,7 @@ pub frame_back : (f : Sent) → f.identifier ≤ 0xFFF → f.length ≤ 8 → le
 unfolding frame_text shown
 frame_back f i h n b =
     let s = shown f i h n b in
-    let read = formed (frame s.identifier_shown (omega arith) (omega arith) s.length_shown h s.bytes_shown) in
+    let read = frame_formed f.length s.identifier_shown (omega arith) (omega arith) s.length_shown (pairs_for_law f.length h) s.bytes_shown in
     rw (one_line f) (ap (λ (t : List ℕ). parsed (ascii "F " ++ t) ∷ []) (so f) ∙ ap (λ p. p ∷ []) read)
 
 pairs_length : (bs : List ℕ) → length (pairs_text bs) ≡ 3 * length bs

@@ -1,14 +1,14 @@
 -- The forms of a line, stated over its bytes: 01, chapter "Worked numbers", "Session program". These relations use none of the definitions
 -- of Lines, Grammar and Printed. `Forms` states that those definitions give these lines, these numbers and these texts, and no others.
-use Rattle.std.specs.Prelude.{ℕ, suc, ◌+◌, ◌*◌, ◌-◌, ◌≤◌, ◌<◌, ◌≡◌, List, [], ◌∷◌, ◌++◌, length, take, replicate}
+use Rattle.std.specs.Prelude.{ℕ, suc, ◌+◌, ◌*◌, ◌-◌, ◌≤◌, ◌<◌, ◌≡◌, Some, List, [], ◌∷◌, ◌++◌, length, take, replicate}
 use Rattle.can.specs.Number.{AreBytes}
 use Rattle.can.specs.declared.Frame.{Frame as Sent}
 use Rattle.text.specs.Ascii.{ascii}
 use Rattle.text.specs.Lines.{lines}
-use Rattle.text.specs.Grammar.{says}
+use Rattle.text.specs.Grammar.{malformed, says}
 use Rattle.text.specs.Printed.{frame_text, none_text, refusal_text}
 use Rattle.text.specs.declared.Command.{Command}
-use Rattle.text.specs.declared.Command.TheVariants.{Malformed, Frame, Ticks, Sample, Missing, Slot}
+use Rattle.text.specs.declared.Command.TheVariants.{Frame, Ticks, Sample, Missing, Slot}
 
 -- hex digits of either case: a byte, and the digit that it stands for
 pub data Digit (b d : ℕ) : Type 0 where
@@ -36,30 +36,30 @@ pub data Pairs : ℕ → List (List ℕ) → List ℕ → Type 0 where
   none : Pairs 0 [] []
   more : {n b : ℕ} {w bs : List ℕ} {ws : List (List ℕ)} → Number 16 2 w b → Pairs n ws bs → Pairs (suc n) (w ∷ ws) (b ∷ bs)
 
--- the fields of a line, its command, and the bytes of its frame
-pub data Form : List (List ℕ) → Command → List ℕ → Type 0 where
-  -- `F id len bytes` (id 1..8 hex digits, an 11-bit identifier; len one digit; as many hex pairs,
-  frame : {n id len : ℕ} {i l bytes : List ℕ} {pairs : List (List ℕ)} → Number 16 n i id → 1 ≤ n → n ≤ 8 → Number 10 1 l len → len ≤ 8
-      → Pairs len pairs bytes → Form (ascii "F" ∷ i ∷ l ∷ pairs) (Frame id len) bytes
-  -- but 8 where len is 9)
-  nine : {n id : ℕ} {i l bytes : List ℕ} {pairs : List (List ℕ)} → Number 16 n i id → 1 ≤ n → n ≤ 8 → Number 10 1 l 9
-      → Pairs 8 pairs bytes → Form (ascii "F" ∷ i ∷ l ∷ pairs) (Frame id 9) bytes
-  -- `T n` (1..4 digits, 1..1000 ticks)
-  ticks : {n t : ℕ} {w : List ℕ} → Number 10 n w t → 1 ≤ n → n ≤ 4 → 1 ≤ t → t ≤ 1000 → Form (ascii "T" ∷ w ∷ []) (Ticks t) []
-  -- `S r` (1..10 digits)
-  sample : {n r : ℕ} {w : List ℕ} → Number 10 n w r → 1 ≤ n → n ≤ 10 → Form (ascii "S" ∷ w ∷ []) (Sample r) []
-  -- or `S -`
-  missing : Form (ascii "S" ∷ ascii "-" ∷ []) Missing []
-  -- `?` (slot)
-  slot : Form (ascii "?" ∷ []) Slot []
-
 -- a frame's 8 bytes: those given, and 0 beyond them
 abbrev pub filled : List ℕ → List ℕ
 filled bytes = bytes ++ replicate (8 - length bytes) 0
 
--- a line's command, and the bytes of its frame
-abbrev pub Says : List ℕ → Command → List ℕ → Type 0
-Says l c bytes = ((says l).command ≡ c) × ((says l).bytes ≡ filled bytes)
+-- the fields of a line, and its command
+pub data Form : List (List ℕ) → Command → Type 0 where
+  -- `F id len bytes` (id 1..8 hex digits, an 11-bit identifier; len one digit; as many hex pairs,
+  frame : {n id len : ℕ} {i l bytes : List ℕ} {pairs : List (List ℕ)} → Number 16 n i id → 1 ≤ n → n ≤ 8 → Number 10 1 l len → len ≤ 8
+      → Pairs len pairs bytes → Form (ascii "F" ∷ i ∷ l ∷ pairs) (Frame id len (filled bytes))
+  -- but 8 where len is 9)
+  nine : {n id : ℕ} {i l bytes : List ℕ} {pairs : List (List ℕ)} → Number 16 n i id → 1 ≤ n → n ≤ 8 → Number 10 1 l 9
+      → Pairs 8 pairs bytes → Form (ascii "F" ∷ i ∷ l ∷ pairs) (Frame id 9 (filled bytes))
+  -- `T n` (1..4 digits, 1..1000 ticks)
+  ticks : {n t : ℕ} {w : List ℕ} → Number 10 n w t → 1 ≤ n → n ≤ 4 → 1 ≤ t → t ≤ 1000 → Form (ascii "T" ∷ w ∷ []) (Ticks t)
+  -- `S r` (1..10 digits)
+  sample : {n r : ℕ} {w : List ℕ} → Number 10 n w r → 1 ≤ n → n ≤ 10 → Form (ascii "S" ∷ w ∷ []) (Sample r)
+  -- or `S -`
+  missing : Form (ascii "S" ∷ ascii "-" ∷ []) Missing
+  -- `?` (slot)
+  slot : Form (ascii "?" ∷ []) Slot
+
+-- a line's command
+abbrev pub Says : List ℕ → Command → Type 0
+Says l c = says l ≡ Some c
 
 -- none of these bytes is b
 abbrev pub Without : ℕ → List ℕ → Type 0
@@ -90,12 +90,11 @@ pub record Forms : Type 0 where
   -- (none after a last 0Ah)
   pub no_more : lines [] ≡ []
   -- a line that has a form says what its form says,
-  pub formed : {fs : List (List ℕ)} {bytes : List ℕ} {c : Command} → Form fs c bytes → Says (parted fs) c bytes
+  pub formed : {fs : List (List ℕ)} {c : Command} → Form fs c → Says (parted fs) c
   -- and a line that has none is not of its form
-  pub unformed : (l : List ℕ) → ((fs : List (List ℕ)) (c : Command) (bytes : List ℕ) → Form fs c bytes → parted fs ≡ l → ⊥)
-      → Says l Malformed []
+  pub unformed : (l : List ℕ) → ((fs : List (List ℕ)) (c : Command) → Form fs c → parted fs ≡ l → ⊥) → says l ≡ malformed
   -- Lines of at most 64 bytes
-  pub longer : (l : List ℕ) → 64 < length l → Says l Malformed []
+  pub longer : (l : List ℕ) → 64 < length l → says l ≡ malformed
   -- A slot prints identifier (3 digits), length and bytes, capitals,
   pub shown : (f : Sent) → f.identifier ≤ 0xFFF → f.length ≤ 8 → length f.bytes ≡ 8 → AreBytes f.bytes → Shown f (frame_text f)
   -- or `-`;

@@ -1,6 +1,6 @@
 -- What a line says: 01, chapter "Worked numbers", "Session program", in its order.
--- A line that has none of these forms is `Malformed`: refusal 9, "a line not of its form".
-use Rattle.std.specs.Prelude.{ℕ, ◌+◌, ◌*◌, ◌-◌, Bool, true, false, ◌&&◌, cond, List, [], ◌∷◌, map, eqb, ltb, length}
+-- A line that has none of these forms is `malformed`: refusal 9, "a line not of its form".
+use Rattle.std.specs.Prelude.{ℕ, ◌+◌, ◌*◌, ◌-◌, Bool, true, false, ◌&&◌, cond, Option, None, Some, List, [], ◌∷◌, map, eqb, ltb, length}
 use Prim.Native.Char.{code}
 use Rattle.cases.specs.Cases.{first_of}
 use Rattle.cases.specs.Tests.{within}
@@ -8,8 +8,7 @@ use Rattle.cases.specs.Padded.{pad}
 use Rattle.text.specs.Ascii.{ascii}
 use Rattle.text.specs.Lines.{onto, at_most, longest, held}
 use Rattle.text.specs.declared.Command.{Command}
-use Rattle.text.specs.declared.Command.TheVariants.{Malformed, Frame, Ticks, Sample, Missing, Slot}
-use Rattle.text.specs.declared.Parsed.{Parsed}
+use Rattle.text.specs.declared.Command.TheVariants.{Frame, Ticks, Sample, Missing, Slot}
 use Rattle.text.specs.declared.Line.{Line}
 
 -- fields parted by one space: one more field than spaces; between two spaces in a row the field is empty
@@ -49,16 +48,20 @@ value_from base v (x ∷ xs) = value_from base (v * base + digit_of x) xs
 abbrev pub value : ℕ → List ℕ → ℕ
 value base w = value_from base 0 w
 
--- a command, and beside it the bytes of its frame, 0 beyond them
-abbrev pub made : Command → List ℕ → Parsed
-made c bytes = record { command = c; bytes = pad 8 bytes }
+-- the command that a line says, if it is of its form
+abbrev pub Parsed : Type 0
+Parsed = Option Command
+
+-- a command with the bytes of its frame, 0 beyond them
+abbrev pub made : (List ℕ → Command) → List ℕ → Parsed
+made c bytes = Some (c (pad 8 bytes))
 
 abbrev pub only : Command → Parsed
-only c = made c []
+only c = Some c
 
 -- a line not of its form
 abbrev pub malformed : Parsed
-malformed = only Malformed
+malformed = None
 
 -- 8 where len is 9
 abbrev pub pairs_for : ℕ → ℕ

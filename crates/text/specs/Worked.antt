@@ -45,7 +45,7 @@ pub record Worked : Type 0 where
   pub long_refused : says (replicate 65 0x3F) ≡ malformed
   -- hex digits of either case; id 1..8 hex digits
   pub either_case : parsed (ascii "F 7aB 2 cD Ef") ≡ made (Frame 0x7AB 2) (0xCD ∷ 0xEF ∷ [])
-  pub eight_digits : parsed (ascii "F fFfFfFfF 0") ≡ only (Frame 0xFFFFFFFF 0)
+  pub eight_digits : parsed (ascii "F fFfFfFfF 0") ≡ made (Frame 0xFFFFFFFF 0) []
   pub nine_digits : parsed (ascii "F 000000601 0") ≡ malformed
   -- len one digit; as many hex pairs, but 8 where len is 9
   pub hex_len : parsed (ascii "F 601 A 40 04 60 00 00 00 00 00") ≡ malformed

@@ -20,22 +20,18 @@ pub struct Line {
     pub long: bool,
 }
 
-// What a line says. `Malformed`: it is not of its form.
+// What a line says, if it is of its form. Bytes that a frame does not use are 0.
 #[derive(Clone, Copy)]
 pub enum Command {
-    Malformed,
-    Frame { identifier: u32, length: u8 },
+    Frame {
+        identifier: u32,
+        length: u8,
+        bytes: Bytes,
+    },
     Ticks(u16),
     Sample(u64),
     Missing,
     Slot,
-}
-
-// An enum cannot hold an array, so the bytes of a frame stand beside it; unused ones are 0.
-#[derive(Clone, Copy)]
-pub struct Parsed {
-    pub command: Command,
-    pub bytes: Bytes,
 }
 
 // This function does nothing. It ensures the statements of the crate, so the crate is proved only if they are.

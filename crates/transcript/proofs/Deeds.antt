@@ -6,6 +6,7 @@ use mathlib.Core.Option.{Option, none, some}
 use mathlib.Core.List.{List, [], ◌∷◌, ◌++◌}
 use native.Mathlib.Omega.{arith}
 use lib.ListN.{replicate}
+use Rattle.std.specs.Prelude.{Some}
 use borrow.Author.Tests.{le-ltb}
 use Rattle.can.specs.declared.Frame.{Frame as Data}
 use Rattle.parts.specs.declared.Head.{Head}
@@ -16,7 +17,7 @@ use Rattle.promises.proofs.Histories.{after_append}
 use Rattle.promises.specs.Histories.{after}
 use Rattle.text.specs.Ascii.{ascii}
 use Rattle.text.specs.Printed.{frame_text, none_text, refusal_text}
-use Rattle.text.specs.Forms.{Form, missing as missing-form, slot as slot-form, parted, filled}
+use Rattle.text.specs.Forms.{Form, missing as missing-form, slot as slot-form, parted}
 use Rattle.text.specs.declared.Command.{Command}
 use Rattle.text.proofs.Forms.{forms}
 use Rattle.transcript.specs.Commands.{Outcome, silent, refused, told, shown, ticks, called, obeyed}
@@ -27,9 +28,8 @@ use Rattle.transcript.proofs.Kept.{after_kept}
 use Rattle.transcript.proofs.Refusals.{identifier_refused, length_refused, sample_refused, malformed_refused, too_long}
 
 -- what a line of a form does is what its command does
-formed : (h : Head) {fs : List (List ℕ)} {bytes : List ℕ} {c : Command} → Form fs c bytes
-    → reply h (parted fs) ≡ obeyed h (filled bytes) c
-formed h f = rw ((forms.formed f).0, (forms.formed f).1)
+formed : (h : Head) {fs : List (List ℕ)} {c : Command} → Form fs c → reply h (parted fs) ≡ obeyed h (Some c)
+formed h f = rw (forms.formed f)
 
 does : {h : Head} {l : List ℕ} {calls : List Call} {text : List ℕ} (o : Outcome) → reply h l ≡ o → o.head ≡ after h calls → o.text ≡ text
     → Does h l calls text
@@ -79,22 +79,22 @@ pub deeds : Deeds
 unfolding refusal_text
 deeds =
     record {
-      frame_taken = λ h {fs} {bytes} {id} {len} f a b.
+      frame_taken = λ h bytes {fs} {id} {len} f a b.
           let x = data11 id len bytes in
           does (silent (step h (receive x)))
           (formed h f ∙ told_silent (called h (receive x)) (rw (le-ltb 0x7FF id a, le-ltb 8 len b)))
           refl refl;
-      identifier_refused = λ h {fs} {bytes} {id} {len} f a. does_refused 1 (formed h f ∙ identifier_refused h (filled bytes) id len a);
-      length_refused = λ h {fs} {bytes} {id} {len} f a b. does_refused 2 (formed h f ∙ length_refused h (filled bytes) id len a b);
-      ticks_taken = λ h {fs} {bytes} {n} f. does (silent (ticks n h)) (formed h f) (after_ticks n h) refl;
-      sample_taken = λ h {fs} {bytes} {r} f a.
+      identifier_refused = λ h {fs} {bytes} {id} {len} f a. does_refused 1 (formed h f ∙ identifier_refused h bytes id len a);
+      length_refused = λ h {fs} {bytes} {id} {len} f a b. does_refused 2 (formed h f ∙ length_refused h bytes id len a b);
+      ticks_taken = λ h {fs} {n} f. does (silent (ticks n h)) (formed h f) (after_ticks n h) refl;
+      sample_taken = λ h {fs} {r} f a.
           does (silent (step h (sample (Raw r)))) (formed h f ∙ told_silent (called h (sample (Raw r))) (rw (le-ltb 1048575 r a))) refl refl;
-      sample_refused = λ h {fs} {bytes} {r} f a. does_refused 3 (formed h f ∙ sample_refused h (filled bytes) r a);
+      sample_refused = λ h {fs} {r} f a. does_refused 3 (formed h f ∙ sample_refused h r a);
       sample_missing_law = λ h.
           does (silent (step h (sample missing))) (formed h missing-form ∙ told_silent (called h (sample missing)) refl) refl refl;
       slot_sends = λ h f e. does _ (slot_reply h) refl (printed (slot_answer h) f e);
       slot_none = λ h e. does _ (slot_reply h) refl (none_printed (slot_answer h) e);
-      malformed = λ h l bar. does_refused 9 (malformed_refused h l (forms.unformed l bar).0);
+      malformed = λ h l bar. does_refused 9 (malformed_refused h l (forms.unformed l bar));
       too_long = λ h l b. does_refused 9 (too_long h l b);
       in_turn = λ h l ls calls text d. rw (d.prints, d.head);
       nothing = λ h. refl;

@@ -8,9 +8,9 @@ use Rattle.parts.specs.declared.Head.{Head}
 use Rattle.parts.specs.declared.Answer.{Answer}
 use Rattle.parts.specs.declared.Sensor.TheVariants.{Missing as missing, Raw}
 use Rattle.promises.specs.Calls.{Call, receive, tick, sample, slot, step}
-use Rattle.text.specs.Grammar.{says_line}
-use Rattle.text.specs.declared.Command.{Command}
-use Rattle.text.specs.declared.Command.TheVariants.{Malformed, Frame, Ticks, Sample, Missing, Slot}
+use Rattle.std.specs.Prelude.{None, Some}
+use Rattle.text.specs.Grammar.{Parsed, says_line}
+use Rattle.text.specs.declared.Command.TheVariants.{Frame, Ticks, Sample, Missing, Slot}
 use Rattle.text.specs.declared.Line.{Line}
 use Rattle.transcript.specs.declared.Session.{Session}
 use Rattle.transcript.specs.Commands.{Outcome, told, frame_in, ticks, called, obeyed}
@@ -25,17 +25,17 @@ module _ (Good : Head → Type 0) (kept : (h : Head) (c : Call) → Good h → G
   ticks_kept zero h v = v
   ticks_kept (suc n) h v = kept (ticks n h) tick (ticks_kept n h v)
 
-  pub obeyed_kept : (h : Head) (bytes : List ℕ) (c : Command) → Good h → Good (obeyed h bytes c).head
-  obeyed_kept h bytes Malformed v = v
-  obeyed_kept h bytes (Frame id len) v = let f = frame_in id len bytes in told_kept (called h (receive f)) (kept h (receive f) v)
-  obeyed_kept h bytes (Ticks n) v = ticks_kept n h v
-  obeyed_kept h bytes (Sample r) v = told_kept (called h (sample (Raw r))) (kept h (sample (Raw r)) v)
-  obeyed_kept h bytes Missing v = told_kept (called h (sample missing)) (kept h (sample missing) v)
-  obeyed_kept h bytes Slot v = kept h slot v
+  pub obeyed_kept : (h : Head) (p : Parsed) → Good h → Good (obeyed h p).head
+  obeyed_kept h None v = v
+  obeyed_kept h (Some (Frame id len bytes)) v = let f = frame_in id len bytes in told_kept (called h (receive f)) (kept h (receive f) v)
+  obeyed_kept h (Some (Ticks n)) v = ticks_kept n h v
+  obeyed_kept h (Some (Sample r)) v = told_kept (called h (sample (Raw r))) (kept h (sample (Raw r)) v)
+  obeyed_kept h (Some Missing) v = told_kept (called h (sample missing)) (kept h (sample missing) v)
+  obeyed_kept h (Some Slot) v = kept h slot v
 
   pub answered_kept : (h : Head) (r : Line) → Good h → Good (answered h r).head
   unfolding answered
-  answered_kept h r v = obeyed_kept h (says_line r).bytes (says_line r).command v
+  answered_kept h r v = obeyed_kept h (says_line r) v
 
   pub fed_kept : (s : Session) (b : ℕ) → Good s.head → Good (fed s b).session.head
   unfolding fed

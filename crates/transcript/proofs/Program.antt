@@ -44,6 +44,6 @@ program =
           rw (r.printed, closes, r.left, starts.0) (laws.program input);
       line = λ h l r a.
           let e : r ≡ reply_of (reply h l) = a.0 ∙ line_answered h l in
-          (rw e, rw e (held_obeyed h (says l).bytes (says l).command));
+          (rw e, rw e (held_obeyed h (says l)));
       rest_stays = λ s input out printed r c. rw (c.1, c.0) (placed_rest out (prints s input));
     }

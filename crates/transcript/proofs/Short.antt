@@ -5,6 +5,7 @@ use mathlib.Core.List.{List}
 use native.Mathlib.Omega.{arith}
 use lib.Dec.{eqb}
 use lib.ListN.{length, length-take}
+use Rattle.std.specs.Prelude.{None, Some}
 use Rattle.cases.proofs.Cases.{by}
 use Rattle.can.specs.declared.Frame.{Frame as Data}
 use Rattle.parts.specs.declared.Core.{Core}
@@ -16,8 +17,8 @@ use Rattle.promises.specs.Acts.{Act, nothing, enter, reset, boot, idle, send, ta
 use Rattle.promises.specs.Calls.{receive, sample, slot, meant, slot_answer, is_frame, frame_in as frameOr}
 use Rattle.text.specs.Lines.{longest, line_of, held}
 use Rattle.text.specs.Printed.{frame_text, refusal_text}
-use Rattle.text.specs.declared.Command.{Command}
-use Rattle.text.specs.declared.Command.TheVariants.{Malformed, Frame, Ticks, Sample, Missing, Slot}
+use Rattle.text.specs.Grammar.{Parsed}
+use Rattle.text.specs.declared.Command.TheVariants.{Frame, Ticks, Sample, Missing, Slot}
 use Rattle.text.proofs.Roundtrip.{frame_short}
 use Rattle.text.proofs.Laws.{laws}
 use Rattle.transcript.specs.Commands.{Outcome, told, frame_in, called, obeyed}
@@ -52,16 +53,16 @@ told_fits : (a : Answer) → length (told a).text ≤ longest
 unfolding told
 told_fits a = by (λ (o : Outcome). length o.text ≤ longest) (eqb a.refusal 0) (λ _. omega arith) (λ _. refusal_fits a.refusal)
 
-fits : (h : Head) (bytes : List ℕ) (c : Command) → length (obeyed h bytes c).text ≤ longest
-fits h bytes Malformed = refusal_fits 9
-fits h bytes (Frame id len) = told_fits (called h (receive (frame_in id len bytes)))
-fits h bytes (Ticks n) = omega arith
-fits h bytes (Sample r) = told_fits (called h (sample (Raw r)))
-fits h bytes Missing = told_fits (called h (sample missing))
-fits h bytes Slot =
+fits : (h : Head) (p : Parsed) → length (obeyed h p).text ≤ longest
+fits h None = refusal_fits 9
+fits h (Some (Frame id len bytes)) = told_fits (called h (receive (frame_in id len bytes)))
+fits h (Some (Ticks n)) = omega arith
+fits h (Some (Sample r)) = told_fits (called h (sample (Raw r)))
+fits h (Some Missing) = told_fits (called h (sample missing))
+fits h (Some Slot) =
     by (λ (t : List ℕ). length t ≤ longest) (is_frame (slot_answer h))
     (λ _. frame_fits (frameOr (slot_answer h)) (sent_short h.core (meant h slot)))
     (λ _. omega arith)
 
-pub held_obeyed : (h : Head) (bytes : List ℕ) (c : Command) → held (line_of (obeyed h bytes c).text) ≡ (obeyed h bytes c).text
-held_obeyed h bytes c = laws.held_line (obeyed h bytes c).text (fits h bytes c)
+pub held_obeyed : (h : Head) (p : Parsed) → held (line_of (obeyed h p).text) ≡ (obeyed h p).text
+held_obeyed h p = laws.held_line (obeyed h p).text (fits h p)

@@ -6,14 +6,14 @@ use Rattle.dictionary.proofs.Worked.{named1}
 use Rattle.parts.specs.declared.Head.{Head}
 use Rattle.promises.specs.Valid.{Valid}
 use Rattle.promises.proofs.Valid.{valid_step, valid_started}
-use Rattle.text.specs.declared.Command.{Command}
+use Rattle.text.specs.Grammar.{Parsed}
 use Rattle.text.specs.declared.Line.{Line}
 use Rattle.transcript.specs.declared.Session.{Session}
 use Rattle.transcript.specs.Commands.{obeyed}
 use Rattle.transcript.specs.Bytes.{answered, started, fed, after}
 use Rattle.transcript.proofs.Kept.{obeyed_kept, answered_kept, fed_kept, after_kept}
 
-pub valid_obeyed : (h : Head) (bytes : List ℕ) (c : Command) → Valid h → Valid (obeyed h bytes c).head
+pub valid_obeyed : (h : Head) (p : Parsed) → Valid h → Valid (obeyed h p).head
 valid_obeyed = obeyed_kept Valid valid_step
 
 pub valid_answered : (h : Head) (r : Line) → Valid h → Valid (answered h r).head

@@ -65,7 +65,7 @@ line_answered h l = rw (laws.says_line_law l)
 by_lines : (h : Head) (ls : List (List ℕ)) → talked h (map line_of ls) ≡ talk h ls
 unfolding talked
 by_lines h [] = refl
-by_lines h (l ∷ ls) = rw (line_answered h l, held_obeyed h (says l).bytes (says l).command, by_lines (reply h l).head ls)
+by_lines h (l ∷ ls) = rw (line_answered h l, held_obeyed h (says l), by_lines (reply h l).head ls)
 
 pub whole : (h : Head) (input : List ℕ)
     → prints (session h blank) input ++ held (closing (after (session h blank) input)) ≡ talk h (lines input)

@@ -18,7 +18,7 @@ reply_of o = record { head = o.head; text = line_of o.text }
 
 -- what a line does once it is gathered byte by byte
 unfoldable pub answered : Head → Line → Reply
-answered h r = reply_of (obeyed h (says_line r).bytes (says_line r).command)
+answered h r = reply_of (obeyed h (says_line r))
 
 -- a head, and what has arrived of a line
 abbrev pub session : Head → Line → Session

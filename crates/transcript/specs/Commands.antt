@@ -1,7 +1,7 @@
 -- What a command does to the head and what it prints: 01, chapter "Worked
 -- numbers", "Session program", and refusal 9 of chapter "Refusal numbers".
 -- A command is what a line says (`text`, specs/Grammar.antt). `promises`, specs/Calls.antt, defines what the head does and answers.
-use Rattle.std.specs.Prelude.{ℕ, zero, suc, false, cond, List, [], eqb}
+use Rattle.std.specs.Prelude.{ℕ, zero, suc, false, cond, None, Some, List, [], eqb}
 use Rattle.can.specs.declared.Received.{Received}
 use Rattle.parts.specs.declared.Head.{Head}
 use Rattle.parts.specs.declared.Answer.{Answer}
@@ -9,8 +9,8 @@ use Rattle.parts.specs.declared.Sent.{Sent}
 use Rattle.parts.specs.declared.Sensor.TheVariants.{Missing as missing, Raw}
 use Rattle.promises.specs.Calls.{Call, receive, tick, sample, slot, step, answered, refusal_by, slot_answer, sent_with}
 use Rattle.text.specs.Printed.{frame_text, none_text, refusal_text}
-use Rattle.text.specs.declared.Command.{Command}
-use Rattle.text.specs.declared.Command.TheVariants.{Malformed, Frame, Ticks, Sample, Missing, Slot}
+use Rattle.text.specs.Grammar.{Parsed}
+use Rattle.text.specs.declared.Command.TheVariants.{Frame, Ticks, Sample, Missing, Slot}
 
 -- the head afterwards, and the bytes that are printed
 pub record Outcome : Type 0 where
@@ -48,17 +48,16 @@ ticks (suc n) h = step (ticks n h) tick
 abbrev pub called : Head → Call → Answer
 called h c = answered (refusal_by c) (step h c)
 
--- The bytes are those of the frame; other commands do not use them.
-abbrev pub obeyed : Head → List ℕ → Command → Outcome
+abbrev pub obeyed : Head → Parsed → Outcome
 -- 9: a line not of its form: prints E 9; head unchanged
-obeyed h bytes Malformed = refused 9 h
+obeyed h None = refused 9 h
 -- `F id len bytes`
-obeyed h bytes (Frame id len) = told (called h (receive (frame_in id len bytes)))
+obeyed h (Some (Frame id len bytes)) = told (called h (receive (frame_in id len bytes)))
 -- `T n`
-obeyed h bytes (Ticks n) = silent (ticks n h)
+obeyed h (Some (Ticks n)) = silent (ticks n h)
 -- `S r`; r may be any number: above 1,048,575 it is refused
-obeyed h bytes (Sample r) = told (called h (sample (Raw r)))
+obeyed h (Some (Sample r)) = told (called h (sample (Raw r)))
 -- or `S -`
-obeyed h bytes Missing = told (called h (sample missing))
+obeyed h (Some Missing) = told (called h (sample missing))
 -- `?` (slot)
-obeyed h bytes Slot = shown (sent_with (slot_answer h) (step h slot))
+obeyed h (Some Slot) = shown (sent_with (slot_answer h) (step h slot))

@@ -51,19 +51,19 @@ pub record Called (h : Head) : Type 0 where
 
 pub record Deeds : Type 0 where
   -- `F id len bytes`: a frame received
-  pub frame_taken : (h : Head) {fs : List (List ℕ)} {bytes : List ℕ} {id len : ℕ} → Form fs (Frame id len) bytes → id ≤ 0x7FF → len ≤ 8
+  pub frame_taken : (h : Head) (bytes : List ℕ) {fs : List (List ℕ)} {id len : ℕ} → Form fs (Frame id len (filled bytes)) → id ≤ 0x7FF → len ≤ 8
       → Does h (parted fs) (receive (data11 id len bytes) ∷ []) []
   -- a refusal prints `E` and its number; head unchanged
-  pub identifier_refused : (h : Head) {fs : List (List ℕ)} {bytes : List ℕ} {id len : ℕ} → Form fs (Frame id len) bytes → 0x7FF < id
+  pub identifier_refused : (h : Head) {fs : List (List ℕ)} {bytes : List ℕ} {id len : ℕ} → Form fs (Frame id len bytes) → 0x7FF < id
       → Does h (parted fs) [] (ascii "E 1\n")
-  pub length_refused : (h : Head) {fs : List (List ℕ)} {bytes : List ℕ} {id len : ℕ} → Form fs (Frame id len) bytes → id ≤ 0x7FF → 8 < len
+  pub length_refused : (h : Head) {fs : List (List ℕ)} {bytes : List ℕ} {id len : ℕ} → Form fs (Frame id len bytes) → id ≤ 0x7FF → 8 < len
       → Does h (parted fs) [] (ascii "E 2\n")
   -- `T n`: n ticks
-  pub ticks_taken : (h : Head) {fs : List (List ℕ)} {bytes : List ℕ} {n : ℕ} → Form fs (Ticks n) bytes → Does h (parted fs) (replicate n tick) []
+  pub ticks_taken : (h : Head) {fs : List (List ℕ)} {n : ℕ} → Form fs (Ticks n) → Does h (parted fs) (replicate n tick) []
   -- `S r`: a raw position
-  pub sample_taken : (h : Head) {fs : List (List ℕ)} {bytes : List ℕ} {r : ℕ} → Form fs (Sample r) bytes → r ≤ 1048575
+  pub sample_taken : (h : Head) {fs : List (List ℕ)} {r : ℕ} → Form fs (Sample r) → r ≤ 1048575
       → Does h (parted fs) (sample (Raw r) ∷ []) []
-  pub sample_refused : (h : Head) {fs : List (List ℕ)} {bytes : List ℕ} {r : ℕ} → Form fs (Sample r) bytes → 1048575 < r
+  pub sample_refused : (h : Head) {fs : List (List ℕ)} {r : ℕ} → Form fs (Sample r) → 1048575 < r
       → Does h (parted fs) [] (ascii "E 3\n")
   -- or `S -`: "missing"
   pub sample_missing_law : (h : Head) → Does h (ascii "S -") (sample missing ∷ []) []
@@ -71,7 +71,7 @@ pub record Deeds : Type 0 where
   pub slot_sends : (h : Head) (f : Data) → sent h (slot ∷ []) ≡ f ∷ [] → Does h (ascii "?") (slot ∷ []) (frame_text f)
   pub slot_none : (h : Head) → sent h (slot ∷ []) ≡ [] → Does h (ascii "?") (slot ∷ []) (ascii "-\n")
   -- 9: a line not of its form, or of more than 64 bytes: prints E 9; head unchanged
-  pub malformed : (h : Head) (l : List ℕ) → ((fs : List (List ℕ)) (c : Command) (bytes : List ℕ) → Form fs c bytes → parted fs ≡ l → ⊥)
+  pub malformed : (h : Head) (l : List ℕ) → ((fs : List (List ℕ)) (c : Command) → Form fs c → parted fs ≡ l → ⊥)
       → Does h l [] (ascii "E 9\n")
   pub too_long : (h : Head) (l : List ℕ) → 64 < length l → Does h l [] (ascii "E 9\n")
   -- each line in turn, on the head that the line before it left

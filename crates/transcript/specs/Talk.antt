@@ -9,7 +9,7 @@ use Rattle.transcript.specs.Commands.{Outcome, obeyed}
 
 -- What a line does and prints: the head obeys what the line says. A line of more than 64 bytes is not of its form.
 abbrev pub reply : Head → List ℕ → Outcome
-reply h l = obeyed h (says l).bytes (says l).command
+reply h l = obeyed h (says l)
 
 -- Each line of the input in turn.
 abbrev pub talk : Head → List (List ℕ) → List ℕ

@@ -1,28 +1,34 @@
 -- `parse` meets its contract: each return by the law of its way out. Assumes nothing.
+use borrow.Author.Rules.{rules}
 use Rattle.parsing.proofs.Keys.{parse_empty, parse_slot, parse_one, parse_close, parse_F, parse_T, parse_S, parse_other}
-use mathlib.Core.Path.{◌∙◌}
 use Rattle.parsing.proofs.parse.Goals as goal
 
-pub returns-then-line-eq0 : goal.returns-then-line-eq0
-returns-then-line-eq0 c = c.malformed.ensures ∙ search parse_empty
+pub returns-in-63 : goal.returns-in-63
+returns-in-63 c = search (parse_slot, rules)
 
-pub returns-then-key-eq63 : goal.returns-then-key-eq63
-returns-then-key-eq63 c = c.plain.ensures ∙ search parse_slot
+pub returns-in-70 : goal.returns-in-70
+returns-in-70 c = search (parse_F, rules)
 
-pub returns-then-line-eq1 : goal.returns-then-line-eq1
-returns-then-line-eq1 c = c.malformed-then-line-eq1.ensures ∙ search parse_one
+pub returns-in-84 : goal.returns-in-84
+returns-in-84 c = search (parse_T, rules)
 
-pub returns-then-line-ne32 : goal.returns-then-line-ne32
-returns-then-line-ne32 c = c.malformed-then-line-ne32.ensures ∙ search parse_close
+pub returns-in-83 : goal.returns-in-83
+returns-in-83 c = search (parse_S, rules)
 
-pub returns-then-key-eq70 : goal.returns-then-key-eq70
-returns-then-key-eq70 c = c.frame.ensures ∙ search parse_F
+pub returns-in_default : goal.returns-in_default
+returns-in_default c = search (parse_empty, rules)
 
-pub returns-then-key-eq84 : goal.returns-then-key-eq84
-returns-then-key-eq84 c = c.ticks.ensures ∙ search parse_T
+pub returns-in_default-2 : goal.returns-in_default-2
+returns-in_default-2 c = search (parse_one, rules)
 
-pub returns-then-key-eq83 : goal.returns-then-key-eq83
-returns-then-key-eq83 c = c.sample.ensures ∙ search parse_S
+pub returns-in_default-3 : goal.returns-in_default-3
+returns-in_default-3 c = search (parse_close, rules)
 
-pub returns : goal.returns
-returns c = c.malformed-2.ensures ∙ search parse_other
+pub returns-in_default-4 : goal.returns-in_default-4
+returns-in_default-4 c = search (parse_close, rules)
+
+pub returns-in_default-5 : goal.returns-in_default-5
+returns-in_default-5 c = search (parse_close, rules)
+
+pub returns-in_default-6 : goal.returns-in_default-6
+returns-in_default-6 c = search (parse_other, rules)

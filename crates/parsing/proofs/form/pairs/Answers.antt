@@ -1,33 +1,33 @@
 -- `form::pairs` meets its contract, by the loop laws of Pairs. Assumes nothing.
-use Rattle.parsing.proofs.Pairs.{pairs_start, pairs_more, pairs_good}
-use Rattle.parsing.proofs.Pairs.{pairs_none, pairs_not, pairs_short, pair_below, pairs_many}
-use mathlib.Core.Path.{◌∙◌}
-use native.Mathlib.Omega.{arith}
+use Rattle.text.specs.Grammar.{hex}
+use Rattle.parsing.proofs.Fields.{numbered_next, unread_next}
+use Rattle.parsing.proofs.Pairs.{pairs_start, pairs_more}
+use Rattle.parsing.proofs.Pairs.{pairs_none, pairs_short, pair_below, pairs_many}
+use borrow.Author.Rules.{rules}
 use Rattle.parsing.proofs.form.pairs.Goals as goal
 
-pub loop-done-init : goal.loop-done-init
-loop-done-init c = search pairs_start
+pub loop-byte-init : goal.loop-byte-init
+loop-byte-init c = search (pairs_start, rules)
 
-pub returns-then-line-at : goal.returns-then-line-at
-returns-then-line-at c = c.malformed.ensures ∙ search pairs_none
+pub returns-in_err-pair : goal.returns-in_err-pair
+returns-in_err-pair c =
+    let b = c.loop-byte in
+    rw c.from_residual.ensures (pairs_none b.invariant c.args.identifier (search rules) (unread_next hex 2 c.args.line.now b.at c.in_err-pair.ensures))
 
-pub read-requires : goal.read-requires
-read-requires c = (omega arith, omega arith)
+pub returns-then-pair-at : goal.returns-then-pair-at
+returns-then-pair-at c =
+    let b = c.loop-byte in
+    pairs_short b.invariant c.args.identifier (numbered_next hex 2 c.args.line.now b.at c.in_ok-pair.pair c.in_ok-pair.ensures) c.if-pair-at.true
 
-pub returns-in_default : goal.returns-in_default
-returns-in_default c = c.malformed-in_default.ensures ∙ search pairs_not
+pub overflow_cast-byte : goal.overflow_cast-byte
+overflow_cast-byte c =
+    let b = c.loop-byte in
+    record { fits = pair_below b.invariant c.args.identifier (numbered_next hex 2 c.args.line.now b.at c.in_ok-pair.pair c.in_ok-pair.ensures) }
 
-pub returns-then-end-at : goal.returns-then-end-at
-returns-then-end-at c = c.malformed-then-end-at.ensures ∙ search pairs_short
-
-pub overflow_cast-bytes : goal.overflow_cast-bytes
-overflow_cast-bytes c = record { fits = search pair_below }
-
-pub loop-done-preserved : goal.loop-done-preserved
-loop-done-preserved c = search pairs_more
+pub loop-byte-preserved : goal.loop-byte-preserved
+loop-byte-preserved c =
+    let b = c.loop-byte in
+    pairs_more b.invariant c.args.identifier (numbered_next hex 2 c.args.line.now b.at c.in_ok-pair.pair c.in_ok-pair.ensures) (search rules) c.if-pair-at.false
 
 pub returns-then-at-line : goal.returns-then-at-line
-returns-then-at-line c = c.malformed-then-at-line.ensures ∙ search pairs_many
-
-pub returns : goal.returns
-returns c = search pairs_good
+returns-then-at-line c = pairs_many c.loop-byte.invariant c.args.identifier (search rules) c.if-at-line.true

@@ -1,16 +1,7 @@
--- `form::sample` meets its contract: each return by the law of its way out. Assumes nothing.
-use Rattle.parsing.proofs.Forms.{sample_missing_law, sample_not, sample_more, sample_good}
-use mathlib.Core.Path.{◌∙◌}
+-- `form::sample` meets its contract: a field that is no number, and no `-`, is not of its form. Assumes nothing.
+use Rattle.std.proofs.Common.{rules}
+use Rattle.parsing.proofs.Forms.{sample_not}
 use Rattle.parsing.proofs.form.sample.Goals as goal
 
-pub returns-then-minus : goal.returns-then-minus
-returns-then-minus c = c.plain.ensures ∙ search sample_missing_law
-
-pub returns-in_default : goal.returns-in_default
-returns-in_default c = c.malformed.ensures ∙ search sample_not
-
-pub returns-then-end-line : goal.returns-then-end-line
-returns-then-end-line c = c.malformed-then-end-line.ensures ∙ search sample_more
-
-pub returns : goal.returns
-returns c = c.plain-2.ensures ∙ search sample_good
+pub returns-in_err-lone : goal.returns-in_err-lone
+returns-in_err-lone c = rw c.from_residual.ensures (sample_not c.args.line.now (search rules) c.in_err-lone.ensures)
