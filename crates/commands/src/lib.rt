@@ -59,7 +59,7 @@ fn tick(head: Head, n: u16) -> Head
     ensures { result ≡ ticks n head }
 {
     let mut next = head;
-    for i in 0..n {
+    for _ in 0..n {
         next = head::tick(next);
     }
     next

@@ -85,13 +85,11 @@ pub fn chunk(session: Session, input: &[u8], out: &mut [u8]) -> Done
 {
     let mut next = session;
     let mut len: usize = 0;
-    let mut i: usize = 0;
-    while i < input.len() {
-        let fed = feed(next, input[i]);
+    for byte in input {
+        let fed = feed(next, *byte);
         let text = fed.text;
         len = put(out, len, text);
         next = fed.session;
-        i += 1;
     }
     Done { session: next, len }
 }
@@ -102,13 +100,9 @@ fn put(out: &mut [u8], at: usize, text: Line) -> usize
     ensures { Put out.old at (held text) out.new result }
 {
     let count = lines::kept(text);
-    let bytes = text.bytes;
-    let mut i: usize = 0;
-    while i < count {
-        out[at + i] = bytes[i];
-        i += 1;
-    }
-    at + count
+    let end = at + count;
+    out[at..end].copy_from_slice(&text.bytes[..count]);
+    end
 }
 
 // The end of the input ends a last line; what that prints.

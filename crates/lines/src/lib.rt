@@ -2,11 +2,12 @@
 
 #![tactic(auto)]
 
-ghost use Rattle.std.specs.Prelude.{◌≡◌};
-ghost use Rattle.text.specs.Lines.{at_most, longest, blank, pushed};
+ghost use Rattle.std.specs.Prelude.{◌≡◌, fold};
+ghost use Rattle.text.specs.Lines.{at_most, longest, line_of, blank, pushed};
 
 use text::{LONGEST, Line};
 
+#[tactic(auto, unfolding(text::specs::Lines::line_of))]
 pub fn empty() -> Line
     ensures { result ≡ blank }
 {
@@ -27,29 +28,35 @@ pub fn kept(line: Line) -> usize
 pub fn at_most(most: usize, n: usize) -> usize
     ensures { result ≡ at_most most n }
 {
-    if n < most {
-        return n;
-    }
-    most
+    n.min(most)
 }
 
 // The line with one byte more.
+#[tactic(auto, unfolding(text::specs::Lines::pushed))]
 pub fn push(line: Line, byte: u8) -> Line
     ensures { result ≡ pushed line byte }
 {
-    let at = line.len;
-    let mut bytes = line.bytes;
-    if at < LONGEST {
-        bytes[at] = byte;
-        return Line {
-            bytes,
-            len: at + 1,
-            long: line.long,
-        };
+    let mut next = line;
+    if line.len < LONGEST {
+        next.bytes[line.len] = byte;
+        next.len += 1;
+    } else {
+        next.long = true;
     }
-    Line {
-        bytes,
-        len: at,
-        long: true,
-    }
+    next
+}
+
+// The line with these bytes more.
+pub fn extend(line: Line, bytes: &[u8]) -> Line
+    ensures { result ≡ fold pushed line bytes.now }
+{
+    bytes.iter().fold(line, |text, byte| push(text, *byte))
+}
+
+// The line of these bytes.
+#[tactic(auto, using(text::proofs::Growing::line_grown))]
+pub fn of(bytes: &[u8]) -> Line
+    ensures { result ≡ line_of bytes.now }
+{
+    extend(empty(), bytes)
 }

@@ -150,6 +150,8 @@ pub record Asked : Type 0 where
   pub lines·kept : AsksNothingOf lines.kept.ended (λ M 𝓤. lines.kept.clauses) (λ M 𝓤 𝓛 m f κs a. (tt, λ g. refl))
   pub lines·at_most : AsksNothingOf lines.at_most.ended (λ M 𝓤. lines.at_most.clauses) (λ M 𝓤 𝓛 m f κs a. (tt, λ g. refl))
   pub lines·push : AsksNothingOf lines.push.ended (λ M 𝓤. lines.push.clauses) (λ M 𝓤 𝓛 m f κs a. (tt, λ g. refl))
+  pub lines·extend : AsksNothingOf lines.extend.ended (λ M 𝓤. lines.extend.clauses) (λ M 𝓤 𝓛 m f κs a. (tt, λ g. refl))
+  pub lines·of : AsksNothingOf lines.of.ended (λ M 𝓤. lines.of.clauses) (λ M 𝓤 𝓛 m f κs a. (tt, λ g. refl))
   pub numbers·read : AsksOnlyOf numbers.read.ended (λ κs a. (a.1.1.0 ≤ 16) × (a.1.1.1.0 ≤ 10)) (λ M 𝓤. numbers.read.clauses) (λ M 𝓤 𝓛 m f κs a. (tt, λ g. refl))
   pub parsing·parse_line : AsksNothingOf parsing.parse_line.ended (λ M 𝓤. parsing.parse_line.clauses) (λ M 𝓤 𝓛 m f κs a. (tt, λ g. refl))
   pub parsing·parse : AsksNothingOf parsing.parse.ended (λ M 𝓤. parsing.parse.clauses) (λ M 𝓤 𝓛 m f κs a. (tt, λ g. refl))

@@ -147,6 +147,8 @@ pub record Outcomes : Type 0 where
   pub lines·kept : OneOutcomeOf lines.kept.ended (λ M 𝓤. lines.kept.clauses) (λ M 𝓤 𝓛 m f κs a g r e. refl)
   pub lines·at_most : OneOutcomeOf lines.at_most.ended (λ M 𝓤. lines.at_most.clauses) (λ M 𝓤 𝓛 m f κs a g r e. refl)
   pub lines·push : OneOutcomeOf lines.push.ended (λ M 𝓤. lines.push.clauses) (λ M 𝓤 𝓛 m f κs a g r e. refl)
+  pub lines·extend : OneOutcomeOf lines.extend.ended (λ M 𝓤. lines.extend.clauses) (λ M 𝓤 𝓛 m f κs a g r e. refl)
+  pub lines·of : OneOutcomeOf lines.of.ended (λ M 𝓤. lines.of.clauses) (λ M 𝓤 𝓛 m f κs a g r e. refl)
   pub numbers·read : OneOutcomeOf numbers.read.ended (λ M 𝓤. numbers.read.clauses) (λ M 𝓤 𝓛 m f κs a g r e. refl)
   pub parsing·parse_line : OneOutcomeOf parsing.parse_line.ended (λ M 𝓤. parsing.parse_line.clauses) (λ M 𝓤 𝓛 m f κs a g r e. refl)
   pub parsing·parse : OneOutcomeOf parsing.parse.ended (λ M 𝓤. parsing.parse.clauses) (λ M 𝓤 𝓛 m f κs a g r e. refl)

@@ -3,7 +3,7 @@
 #![tactic(auto)]
 
 ghost use Rattle.std.specs.Prelude.{◌≡◌, ◌<◌};
-ghost use Rattle.text.specs.Lines.{line_of, pushed};
+ghost use Rattle.text.specs.Lines.{line_of};
 ghost use Rattle.text.specs.Printed.{hex_of, digit_at, begun, frame_text, none_text, refusal_text};
 ghost use Rattle.printing.specs.Steps.{paired};
 
@@ -19,8 +19,8 @@ pub fn frame(frame: Frame) -> Line
     let bytes = frame.bytes;
     let count = lines::at_most(MOST_BYTES, frame.length as usize);
     let mut text = begin(frame.identifier, frame.length);
-    for i in 0..count {
-        text = pair(text, bytes[i]);
+    for byte in &bytes[..count] {
+        text = pair(text, *byte);
     }
     lines::push(text, b'\n')
 }
@@ -29,9 +29,14 @@ pub fn frame(frame: Frame) -> Line
 fn begin(identifier: u32, length: u8) -> Line
     ensures { result ≡ line_of (begun identifier length) }
 {
-    let high = digit(lines::empty(), identifier, 256);
-    let text = digit(digit(high, identifier, 16), identifier, 1);
-    digit(lines::push(text, b' '), length as u32, 1)
+    let begun = [
+        digit(identifier, 256),
+        digit(identifier, 16),
+        digit(identifier, 1),
+        b' ',
+        digit(length as u32, 1),
+    ];
+    lines::of(&begun)
 }
 
 // A space and a byte.
@@ -39,38 +44,39 @@ fn pair(text: Line, byte: u8) -> Line
     ensures { result ≡ paired text byte }
 {
     let n = byte as u32;
-    digit(digit(lines::push(text, b' '), n, 16), n, 1)
+    lines::extend(text, &[b' ', digit(n, 16), digit(n, 1)])
 }
 
 // The hex digit of a number at a weight.
-fn digit(text: Line, n: u32, weight: u32) -> Line
+fn digit(n: u32, weight: u32) -> u8
     requires { 0 < weight }
-    ensures { result ≡ pushed text (digit_at weight n) }
+    ensures { result ≡ digit_at weight n }
 {
-    lines::push(text, hex((n / weight % 16) as u8))
+    hex((n / weight % 16) as u8)
 }
 
-// Capitals.
+// Capitals, and std's `char::from_digit` gives small letters.
 fn hex(n: u8) -> u8
     requires { n < 16 }
     ensures { result ≡ hex_of n }
 {
-    if n < 10 {
-        return b'0' + n;
+    match n {
+        0..=9 => b'0' + n,
+        _ => b'A' - 10 + n,
     }
-    b'A' - 10 + n
 }
 
 // What a slot prints if no frame waits.
 pub fn none() -> Line
     ensures { result ≡ line_of none_text }
 {
-    lines::push(lines::push(lines::empty(), b'-'), b'\n')
+    lines::of(b"-\n")
 }
 
+#[tactic(auto, unfolding(text::specs::Printed::refusal_text))]
 pub fn refusal(number: u8) -> Line
     ensures { result ≡ line_of (refusal_text number) }
 {
-    let text = lines::push(lines::push(lines::empty(), b'E'), b' ');
-    lines::push(digit(text, number as u32, 1), b'\n')
+    let text = [b'E', b' ', digit(number as u32, 1), b'\n'];
+    lines::of(&text)
 }

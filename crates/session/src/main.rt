@@ -2,7 +2,7 @@
 
 #![tactic(auto)]
 
-ghost use Rattle.std.specs.Prelude.{◌≤◌, length};
+ghost use Rattle.std.specs.Prelude.{◌≤◌, length, IfSome};
 ghost use Rattle.promises.specs.Valid.{Valid};
 
 use std::fmt::InlineText;
@@ -19,41 +19,25 @@ const ROOM: usize = 262_144;
 // More than the text of an error takes.
 const LONGEST_ERROR: usize = 128;
 
-#[derive(Clone, Copy)]
-struct After {
-    more: bool,
-    session: Session,
-}
-
-// Reads once, prints what came of it before it waits again, and says whether to go on.
-fn turn(rt: &HostRuntime, session: Session, out: &mut [u8]) -> After
+// Reads once, and prints what came of it before it waits again. The answer is the session to go on with, if there is more to read.
+fn turn(rt: &HostRuntime, session: Session, out: &mut [u8]) -> Option<Session>
     requires valid { Valid session.head }
     requires in_bounds { 262144 ≤ length out.old }
-    ensures { Valid result.session.head }
+    ensures { IfSome result (λ next. Valid next.head) }
 {
     let mut input = [0u8; CHUNK];
     match rt.stdin().read(&mut input) {
         Ok(0) => {
             finish(rt, session);
-            After {
-                more: false,
-                session,
-            }
+            None
         }
         Ok(count) => {
             let done = feeding::chunk(session, &input[..count], out);
-            let more = print(rt, &out[..done.len]);
-            After {
-                more,
-                session: done.session,
-            }
+            print(rt, &out[..done.len]).then_some(done.session)
         }
         Err(error) => {
             report(rt, "session: cannot read", error);
-            After {
-                more: false,
-                session,
-            }
+            None
         }
     }
 }
@@ -100,10 +84,9 @@ fn main(rt: HostRuntime) {
     let mut out = [0u8; ROOM];
     let mut session = feeding::start();
     for _ in 0..u64::MAX {
-        let after = turn(&rt, session, &mut out);
-        session = after.session;
-        if !after.more {
+        let Some(next) = turn(&rt, session, &mut out) else {
             break;
-        }
+        };
+        session = next;
     }
 }

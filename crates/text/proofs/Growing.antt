@@ -11,7 +11,9 @@ use Rattle.cases.specs.Padded.{pad}
 use Rattle.cases.proofs.Cases.{test, by, cond_ap}
 use Rattle.cases.proofs.Padded.{pad_put}
 use borrow.Author.Tests.{lt-ltb, le-ltb, ltb-true, ltb-false, ne_eqb}
+use Rattle.std.specs.Prelude.{fold}
 use Rattle.text.specs.Lines.{onto, lines, at_most, longest, line_of, blank, held, pushed, handed}
+use Rattle.text.specs.declared.Line.{Line}
 use Rattle.text.specs.Grammar.{says, says_line}
 use Rattle.text.proofs.Padded.{pad_full, take_pad}
 
@@ -28,6 +30,13 @@ push_line l b =
     (λ e.
     let h : longest ≤ length l = ltb-false _ _ e in
     rw (n, e, pad_full longest l (b ∷ []) h, le-ltb (length l + 1) longest (omega arith), lt-ltb longest (length l + 1) (omega arith)))
+
+pub push_lines : (l bs : List ℕ) → fold pushed (line_of l) bs ≡ line_of (l ++ bs)
+push_lines l [] = rw append-nil
+push_lines l (b ∷ bs) = rw (push_line l b, push_lines (l ++ b ∷ []) bs, append_assoc)
+
+pub line_grown : {r : Line} (bs : List ℕ) → r ≡ blank → fold pushed r bs ≡ line_of bs
+line_grown bs e = rw e (push_lines [] bs)
 
 -- a line that is not too long is kept whole
 pub held_line : (l : List ℕ) → length l ≤ longest → held (line_of l) ≡ l

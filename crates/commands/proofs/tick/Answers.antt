@@ -1,11 +1,9 @@
-use Rattle.commands.proofs.Ticks.{tick_start, tick_more, tick_all}
+use native.Mathlib.Omega.{arith}
+use Rattle.commands.proofs.Ticks.{tick_more, tick_all}
 use Rattle.commands.proofs.tick.Goals as goal
 
-pub loop-i-init : goal.loop-i-init
-loop-i-init c = search tick_start
-
-pub loop-i-preserved : goal.loop-i-preserved
-loop-i-preserved c = search tick_more
+pub loop-preserved : goal.loop-preserved
+loop-preserved c = (tick_more c.loop.counter c.args.head c.loop.invariant.0 c.tick-next.ensures.0, c.tick-next.ensures.1)
 
 pub returns : goal.returns
-returns c = search tick_all
+returns c = tick_all c.args.head c.loop.invariant.0 (omega (arith, c.loop.auto.counter-end, c.loop-test.false))

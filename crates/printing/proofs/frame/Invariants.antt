@@ -1,9 +1,5 @@
-use Prim.Native.Nat.{◌-◌}
-use Rattle.printing.proofs.Printing.{Writing}
+use Rattle.printing.proofs.Printing.{Written}
 use Rattle.printing.proofs.frame.Given as goal
 
-abbrev pub invariant-loop-i : goal.invariant-loop-i
-invariant-loop-i l = Writing l.initial.text l.count l.bytes l.text l.i
-
-abbrev pub decreases-loop-i : goal.decreases-loop-i
-decreases-loop-i l = l.count - l.i
+abbrev pub invariant-loop-byte : goal.invariant-loop-byte
+invariant-loop-byte l = Written l.fn.frame.identifier l.fn.frame.length l.byte-items l.text l.byte-index
