@@ -18,7 +18,7 @@ use transcript::Reply;
 const NOT_OF_ITS_FORM: u8 = 9;
 
 // Above every sample that the head takes, and the highest number that its call can be given.
-const HIGHEST: u64 = 0xFFFF_FFFF;
+const HIGHEST: u32 = 0xFFFF_FFFF;
 
 pub fn obey(head: Head, said: Option<Command>) -> Reply
     requires { Valid head }
@@ -70,10 +70,8 @@ fn sample(head: Head, number: u64) -> Reply
     requires { Valid head }
     ensures { result ≡ reply_of (tells (called head (samples (raw number)))) }
 {
-    if HIGHEST < number {
-        return told(head::sample(head, Sensor::Raw(HIGHEST as u32)));
-    }
-    told(head::sample(head, Sensor::Raw(number as u32)))
+    let raw = u32::try_from(number).unwrap_or(HIGHEST);
+    told(head::sample(head, Sensor::Raw(raw)))
 }
 
 // A refusal prints its number; without a refusal nothing is printed.

@@ -12,7 +12,8 @@ use can::Bytes;
 // Lines of at most 64 bytes.
 pub const LONGEST: usize = 64;
 
-// The first bytes of a line, `len` of them, and whether there were more.
+// The first bytes of a line, `len` of them, and whether there were more. There is no heap, so they stand in an array.
+// This crate has no code: the functions of a line are in crate `lines`.
 #[derive(Clone, Copy)]
 pub struct Line {
     pub bytes: [u8; LONGEST],
