@@ -3,7 +3,7 @@
 #![tactic(auto)]
 
 ghost use Rattle.std.specs.Prelude.{◌≡◌};
-ghost use Rattle.promises.specs.Calls.{receive as receives, sample as samples};
+ghost use Rattle.promises.specs.Calls.{receive as receives, sample as samples, answer_in};
 ghost use Rattle.promises.specs.Valid.{Valid};
 ghost use Rattle.parts.specs.declared.Sensor.TheVariants.{Raw as raw};
 ghost use Rattle.transcript.specs.Commands.{frame_in, ticks, told as tells, shown as shows, refused, silent, called, obeyed};
@@ -105,18 +105,12 @@ fn quiet(head: Head) -> Reply
 
 // The frame that a slot sends, or `-`.
 fn shown(sent: Sent) -> Reply
-    ensures { result ≡ reply_of (shows sent) }
+    ensures { result ≡ reply_of (shows (answer_in sent)) }
 {
     let head = sent.head;
-    if sent.waited {
-        let frame = sent.frame;
-        return Reply {
-            head,
-            text: printing::frame(frame),
-        };
-    }
-    Reply {
-        head,
-        text: printing::none(),
-    }
+    let text = match sent.frame {
+        Some(frame) => printing::frame(frame),
+        None => printing::none(),
+    };
+    Reply { head, text }
 }

@@ -1,2 +1,1 @@
 pub mod PowerUps
-pub mod Slots

@@ -3,53 +3,50 @@
 
 #![tactic(auto)]
 
-ghost use Rattle.std.specs.Prelude.{◌≡◌};
+ghost use Rattle.std.specs.Prelude.{◌≡◌, OnOk};
 ghost use Rattle.promises.specs.States.{started as startedHead};
 ghost use Rattle.parts.specs.declared.Sensor.TheVariants.{Missing, Raw};
+ghost use Rattle.can.specs.Frame.{number_in};
 ghost use Rattle.dictionary.specs.Valid.{FitsIdentity};
-ghost use Rattle.promises.specs.Calls.{answered, no_identity, powered_up};
+ghost use Rattle.promises.specs.Calls.{answered, answer_in, no_identity, powered_up};
 ghost use Rattle.promises.specs.Valid.{Valid};
 ghost use Rattle.promises.specs.Promised.{PowersUp, Receives, Ticks, Samples, Slots};
 
-use can::Received;
+use can::{Received, Refusal};
 use entries::{Device, Identity, Reading, Settings};
 use names::Transfer;
 use parts::{Answer, Core, Fixed, Head, Nmt, Sensor, Sent, Setup};
 
-mod obeying;
-mod sending;
-
-pub const BAD_NODE: u8 = 4;
-
-pub const BAD_NAME: u8 = 5;
+pub mod obeying;
+pub mod sending;
 
 // The refusal, and the head that power-up leaves.
 pub fn power_up(setup: Setup) -> Answer
     ensures { PowersUp setup.node setup.identity result }
 {
     Answer {
-        refusal: refusal(setup),
+        refusal: can::number_in(checked(setup)),
         head: powered(setup),
     }
 }
 
-// A node number that is not 1..127 is refused with 4, then a name that does not have 1 to 32 bytes with 5.
-pub fn refusal(setup: Setup) -> u8
-    ensures value { result ≡ (powered_up setup.node setup.identity).refusal }
-    ensures fits_identity { result ≡ 0 → FitsIdentity setup.identity }
+// A node number that is not 1..127 is refused first, then a name that does not have 1 to 32 bytes.
+pub fn checked(setup: Setup) -> Result<(), Refusal>
+    ensures value { number_in result ≡ (powered_up setup.node setup.identity).refusal }
+    ensures fits_identity { OnOk result (FitsIdentity setup.identity) }
 {
     let node = setup.node;
     let identity = setup.identity;
     if !((1 <= node) & (node <= 127)) {
-        return BAD_NODE;
+        return Err(Refusal::BadNode);
     }
     if !(names::is_name(identity.name)
         & names::is_name(identity.hardware)
         & names::is_name(identity.software))
     {
-        return BAD_NAME;
+        return Err(Refusal::BadName);
     }
-    can::NO_REFUSAL
+    Ok(())
 }
 
 // Initialising, with factory settings, the reading missing. A refused power-up leaves a head of node 1 with identity numbers 0 and
@@ -59,10 +56,10 @@ pub fn powered(setup: Setup) -> Head
 {
     let node = setup.node;
     let identity = setup.identity;
-    if refusal(setup) != can::NO_REFUSAL {
-        return refused();
+    match checked(setup) {
+        Ok(()) => started(node, identity),
+        Err(_) => refused(),
     }
-    started(node, identity)
 }
 
 fn refused() -> Head
@@ -115,23 +112,26 @@ pub fn receive(head: Head, frame: Received) -> Answer
     requires { Valid head }
     ensures { Receives head frame result }
 {
-    let state = head.core.nmt;
-    let device = head.core.device;
-    let line = head.line;
-    let present = head.transfer;
-    let heard = steps::hear::hear(state, device, present, line, frame);
-    let transfer = heard.transfer;
-    let core = head.core;
-    Answer {
-        refusal: heard.refusal,
-        head: obeying::obeyed(
-            Head {
-                line,
-                transfer,
-                core,
-            },
-            heard,
-        ),
+    let heard = steps::hear::hear(
+        head.core.nmt,
+        head.core.device,
+        head.transfer,
+        head.line,
+        frame,
+    );
+    match heard {
+        Ok(heard) => {
+            let mut left = head;
+            obeying::obey(&mut left, heard);
+            Answer {
+                refusal: can::NO_REFUSAL,
+                head: left,
+            }
+        }
+        Err(refusal) => Answer {
+            refusal: refusal.number(),
+            head,
+        },
     }
 }
 
@@ -142,37 +142,24 @@ pub fn tick(head: Head) -> Head
 {
     let state = head.core.nmt;
     let settings = head.core.device.settings.communication;
-    let counted = head.core.timers;
-    let waiting = head.line;
     let good = head.core.device.reading.good;
     let announced = head.core.announced;
-    let ticked = steps::tick::tick(state, settings, counted, good, announced);
+    let ticked = steps::tick::tick(state, settings, head.core.timers, good, announced);
     let timers = ticked.timers;
-    let due = ticked.due;
-    let transfer = head.transfer;
-    let mut core = head.core;
-    core.timers = timers;
-    if ticked.way != steps::tick::SETTLES {
-        return Head {
-            line: waiting,
-            transfer,
-            core,
-        };
+    let mut left = head;
+    left.core.timers = timers;
+    if let Some(due) = ticked.due {
+        left.line = settling::joined(
+            left.line,
+            state,
+            settings,
+            timers.inhibit,
+            good,
+            announced,
+            due,
+        );
     }
-    let line = settling::joined(
-        waiting,
-        state,
-        settings,
-        timers.inhibit,
-        good,
-        announced,
-        due,
-    );
-    Head {
-        line,
-        transfer,
-        core,
-    }
+    left
 }
 
 // A raw position, or "missing". A raw position above 1,048,575 is refused with 3.
@@ -224,31 +211,30 @@ pub fn sample_raw(head: Head, raw: u32) -> Answer
     requires { Valid head }
     ensures { Samples head (Raw raw) result }
 {
-    let state = head.core.nmt;
-    let present = head.core.device.reading;
-    let waiting = head.line;
-    let left = samples::raw(
-        state,
+    let sampled = samples::raw(
+        head.core.nmt,
         head.core.device.settings.communication.emergency,
         head.core.timers.inhibit,
-        present,
+        head.core.device.reading,
         head.core.announced,
-        waiting,
+        head.line,
         raw,
     );
-    let reading = left.reading;
-    let line = left.line;
-    let mut device = head.core.device;
-    device.reading = reading;
-    let transfer = head.transfer;
-    let mut core = head.core;
-    core.device = device;
-    Answer {
-        refusal: left.refusal,
-        head: Head {
-            line,
-            transfer,
-            core,
+    match sampled {
+        Ok(sampled) => {
+            let reading = sampled.reading;
+            let line = sampled.line;
+            let mut left = head;
+            left.core.device.reading = reading;
+            left.line = line;
+            Answer {
+                refusal: can::NO_REFUSAL,
+                head: left,
+            }
+        }
+        Err(refusal) => Answer {
+            refusal: refusal.number(),
+            head,
         },
     }
 }
@@ -256,27 +242,25 @@ pub fn sample_raw(head: Head, raw: u32) -> Answer
 // A frame can be sent: the answer is the first that waits, or none exactly if none waits.
 pub fn slot(head: Head) -> Sent
     requires { Valid head }
-    ensures { Slots head result }
+    ensures { Slots head (answer_in result) }
 {
-    let state = head.core.nmt;
-    let settings = head.core.device.settings;
-    let reading = head.core.device.reading;
-    let reply = head.core.reply;
-    let fixed = head.core.fixed;
-    let line = head.line;
     let slotted = steps::slot::slot(
         head.core.device.node,
-        state,
-        settings,
-        reading,
-        reply,
-        fixed,
-        line,
+        head.core.nmt,
+        head.core.device.settings,
+        head.core.device.reading,
+        head.core.reply,
+        head.core.fixed,
+        head.line,
     );
-    let frame = slotted.outgoing.frame;
+    let Some(slotted) = slotted else {
+        return Sent { frame: None, head };
+    };
+    let frame = slotted.frame;
+    let mut left = head;
+    sending::send(&mut left, slotted.way);
     Sent {
-        waited: slotted.outgoing.waited,
-        frame,
-        head: sending::sent(head, slotted.way),
+        frame: Some(frame),
+        head: left,
     }
 }

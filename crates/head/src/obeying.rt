@@ -2,244 +2,171 @@
 ghost use Rattle.std.specs.Prelude.{◌≡◌};
 ghost use Rattle.position.specs.Profile.{ValidProfile};
 ghost use Rattle.dictionary.specs.Writes.{Fits};
-ghost use Rattle.steps.specs.Obey.{replied_in, synced_in, configured_in, scaled_in, entered_in, restarted_in, saved_in, emptied_in, obeyed_in};
+ghost use Rattle.steps.specs.Obey.{replied_in, synced_in, configured_in, scaled_in, entered_in, restarted_in, saved_in, emptied_in, went, Fitting, obeyed_in};
 ghost use Rattle.head.specs.Writable.{Writable};
 
+use can::Bytes;
 use nmt::entry;
-use parts::Head;
+use parts::{Head, Nmt};
 use server::effect;
-use steps::hear;
-use steps::hear::Heard;
+use steps::hear::{Heard, Way, Written};
 use tpdo::sync;
 
-// The head after it obeyed the frame; unchanged if the frame means nothing.
-pub fn obeyed(head: Head, heard: Heard) -> Head
-    requires { Writable head heard }
-    ensures { result ≡ obeyed_in head heard heard.way }
+// The head obeys the frame, if it is meant for the head.
+pub fn obey(head: &mut Head, heard: Option<Heard>)
+    requires { Writable head.old heard }
+    ensures { head.new ≡ obeyed_in head.old heard }
 {
-    let way = heard.way;
+    let Some(heard) = heard else {
+        return;
+    };
+    if let Some(transfer) = heard.transfer {
+        head.transfer = transfer;
+    }
+    go(head, heard.way);
+}
+
+fn go(head: &mut Head, way: Way)
+    requires valid { ValidProfile head.old.core.device.settings.profile }
+    requires fits { Fitting head.old.core.device.settings.profile way }
+    ensures { head.new ≡ went head.old way }
+{
     match way {
-        hear::REPLIES => replied(head, heard),
-        hear::SYNCS => synced(head),
-        hear::CONFIGURES => configured(head, heard),
-        hear::SCALES => scaled(head, heard),
-        hear::ENTERS => entered(head, heard),
-        hear::RESETS => restarted(head, heard),
-        hear::SAVES => saved(head, heard),
-        hear::EMPTIES => emptied(head, heard),
-        _ => head,
+        Way::Replies(reply) => replied(head, reply),
+        Way::Syncs => synced(head),
+        Way::Configures(written) => configured(head, written),
+        Way::Scales(written) => scaled(head, written),
+        Way::Enters(state) => entered(head, state),
+        Way::Resets { all } => restarted(head, all),
+        Way::Saves { reply, key } => saved(head, reply, key),
+        Way::Empties(reply) => emptied(head, reply),
+        Way::Ends => {}
     }
 }
 
-fn replied(head: Head, heard: Heard) -> Head
-    ensures { result ≡ replied_in head heard }
+fn replied(head: &mut Head, reply: Bytes)
+    ensures { head.new ≡ replied_in head.old reply }
 {
-    let bytes = heard.reply;
-    let waiting = head.line;
-    let left = effect::reply(waiting, bytes);
+    let left = effect::reply(head.line, reply);
     let reply = left.reply;
+    head.core.reply = reply;
     let line = left.line;
-    let transfer = head.transfer;
-    let mut core = head.core;
-    core.reply = reply;
-    Head {
-        line,
-        transfer,
-        core,
-    }
+    head.line = line;
 }
 
-fn synced(head: Head) -> Head
-    requires { ValidProfile head.core.device.settings.profile }
-    ensures { result ≡ synced_in head }
+fn synced(head: &mut Head)
+    requires { ValidProfile head.old.core.device.settings.profile }
+    ensures { head.new ≡ synced_in head.old }
 {
-    let state = head.core.nmt;
-    let settings = head.core.device.settings;
-    let counted = head.core.timers;
-    let reading = head.core.device.reading;
-    let held = head.core.fixed;
-    let waiting = head.line;
-    let left = sync::sync(state, settings, counted, reading, held, waiting);
-    let timers = left.timers;
-    let fixed = left.fixed;
+    let left = sync::sync(
+        head.core.nmt,
+        head.core.device.settings,
+        head.core.timers,
+        head.core.device.reading,
+        head.core.fixed,
+        head.line,
+    );
+    head.core.timers = left.timers;
+    head.core.fixed = left.fixed;
     let line = left.line;
-    let transfer = head.transfer;
-    let mut core = head.core;
-    core.timers = timers;
-    core.fixed = fixed;
-    Head {
-        line,
-        transfer,
-        core,
-    }
+    head.line = line;
 }
 
-fn configured(head: Head, heard: Heard) -> Head
-    ensures { result ≡ configured_in head heard }
+fn configured(head: &mut Head, written: Written)
+    ensures { head.new ≡ configured_in head.old written }
 {
-    let bytes = heard.reply;
-    let state = head.core.nmt;
-    let present = head.core.device.settings.communication;
-    let counted = head.core.timers;
-    let waiting = head.line;
     let left = effect::configure(
-        state,
-        present,
-        counted,
+        head.core.nmt,
+        head.core.device.settings.communication,
+        head.core.timers,
         head.core.device.reading.good,
         head.core.announced,
-        waiting,
-        bytes,
-        heard.key,
-        heard.value,
+        head.line,
+        written.reply,
+        written.key,
+        written.value,
     );
-    let communication = left.communication;
-    let timers = left.timers;
+    head.core.device.settings.communication = left.communication;
+    head.core.timers = left.timers;
     let reply = left.reply;
+    head.core.reply = reply;
     let line = left.line;
-    let mut settings = head.core.device.settings;
-    settings.communication = communication;
-    let mut device = head.core.device;
-    device.settings = settings;
-    let transfer = head.transfer;
-    let mut core = head.core;
-    core.device = device;
-    core.timers = timers;
-    core.reply = reply;
-    Head {
-        line,
-        transfer,
-        core,
-    }
+    head.line = line;
 }
 
-fn scaled(head: Head, heard: Heard) -> Head
-    requires { (ValidProfile head.core.device.settings.profile) × (Fits head.core.device.settings.profile heard.key heard.value) }
-    ensures { result ≡ scaled_in head heard }
+fn scaled(head: &mut Head, written: Written)
+    requires { (ValidProfile head.old.core.device.settings.profile) × (Fits head.old.core.device.settings.profile written.key written.value) }
+    ensures { head.new ≡ scaled_in head.old written }
 {
-    let bytes = heard.reply;
-    let held = head.core.device.settings.profile;
-    let waiting = head.line;
     let left = effect::scale(
-        held,
+        head.core.device.settings.profile,
         head.core.device.reading.raw,
-        waiting,
-        bytes,
-        heard.key,
-        heard.value,
+        head.line,
+        written.reply,
+        written.key,
+        written.value,
     );
-    let profile = left.part;
+    head.core.device.settings.profile = left.part;
     let reply = left.reply;
+    head.core.reply = reply;
     let line = left.line;
-    let mut settings = head.core.device.settings;
-    settings.profile = profile;
-    let mut device = head.core.device;
-    device.settings = settings;
-    let transfer = head.transfer;
-    let mut core = head.core;
-    core.device = device;
-    core.reply = reply;
-    Head {
-        line,
-        transfer,
-        core,
-    }
+    head.line = line;
 }
 
-fn entered(head: Head, heard: Heard) -> Head
-    ensures { result ≡ entered_in head heard }
+fn entered(head: &mut Head, state: Nmt)
+    ensures { head.new ≡ entered_in head.old state }
 {
-    let state = heard.state;
-    let present = head.core.nmt;
-    let settings = head.core.device.settings.communication;
-    let counted = head.core.timers;
-    let waiting = head.line;
     let left = entry::enter(
-        present,
-        settings,
-        counted,
+        head.core.nmt,
+        head.core.device.settings.communication,
+        head.core.timers,
         head.core.device.reading.good,
         head.core.announced,
-        waiting,
+        head.line,
         state,
     );
-    let entered = left.nmt;
-    let timers = left.timers;
+    head.core.nmt = left.nmt;
+    head.core.timers = left.timers;
     let line = left.line;
-    let transfer = head.transfer;
-    let mut core = head.core;
-    core.nmt = entered;
-    core.timers = timers;
-    Head {
-        line,
-        transfer,
-        core,
-    }
+    head.line = line;
 }
 
-fn restarted(head: Head, heard: Heard) -> Head
-    ensures { result ≡ restarted_in head heard }
+fn restarted(head: &mut Head, all: bool)
+    ensures { head.new ≡ restarted_in head.old all }
 {
-    let present = head.core.device.settings;
-    let saved = head.core.device.saved;
-    let left = entry::restart(present, saved, heard.all);
-    let settings = left.settings;
-    let state = left.nmt;
-    let timers = left.timers;
+    let left = entry::restart(head.core.device.settings, head.core.device.saved, all);
+    head.core.device.settings = left.settings;
+    head.core.nmt = left.nmt;
+    head.core.announced = left.announced;
+    head.core.timers = left.timers;
     let line = left.line;
-    let mut device = head.core.device;
-    device.settings = settings;
-    let transfer = head.transfer;
-    let mut core = head.core;
-    core.device = device;
-    core.nmt = state;
-    core.announced = left.announced;
-    core.timers = timers;
-    Head {
-        line,
-        transfer,
-        core,
-    }
+    head.line = line;
 }
 
-fn saved(head: Head, heard: Heard) -> Head
-    ensures { result ≡ saved_in head heard }
+fn saved(head: &mut Head, reply: Bytes, key: u32)
+    ensures { head.new ≡ saved_in head.old reply key }
 {
-    let bytes = heard.reply;
-    let settings = head.core.device.settings;
-    let waiting = head.line;
-    let left = effect::save(head.core.device.node, settings, waiting, bytes, heard.key);
-    let saved = left.part;
+    let left = effect::save(
+        head.core.device.node,
+        head.core.device.settings,
+        head.line,
+        reply,
+        key,
+    );
+    head.core.device.saved = left.part;
     let reply = left.reply;
+    head.core.reply = reply;
     let line = left.line;
-    let mut device = head.core.device;
-    device.saved = saved;
-    let transfer = head.transfer;
-    let mut core = head.core;
-    core.device = device;
-    core.reply = reply;
-    Head {
-        line,
-        transfer,
-        core,
-    }
+    head.line = line;
 }
 
-fn emptied(head: Head, heard: Heard) -> Head
-    ensures { result ≡ emptied_in head heard }
+fn emptied(head: &mut Head, reply: Bytes)
+    ensures { head.new ≡ emptied_in head.old reply }
 {
-    let bytes = heard.reply;
-    let waiting = head.line;
-    let left = effect::empty(waiting, bytes);
+    let left = effect::empty(head.line, reply);
+    head.core.device.errors = left.part;
     let reply = left.reply;
+    head.core.reply = reply;
     let line = left.line;
-    let transfer = head.transfer;
-    let mut core = head.core;
-    core.device.errors = left.part;
-    core.reply = reply;
-    Head {
-        line,
-        transfer,
-        core,
-    }
+    head.line = line;
 }

@@ -2,79 +2,56 @@
 ghost use Rattle.std.specs.Prelude.{◌≡◌, ◌≤◌};
 ghost use Rattle.waiting.specs.Line.{places};
 ghost use Rattle.waiting.specs.Places.{waiting as waitingIn, Holds};
-ghost use Rattle.head.specs.Sent.{sent_in, booted_in, announced_in, taken_in};
+ghost use Rattle.steps.specs.Sent.{sent_in, booted_in, announced_in, taken_in};
 
 use parts::Head;
 use steps::slot;
+use steps::slot::Way;
 
-// The head after the slot sent its frame; unchanged if there is none.
-pub fn sent(head: Head, way: u8) -> Head
-    requires inhibit_bound { head.core.device.settings.communication.inhibit ≤ 0xFFFF }
-    requires holds { Holds places head.line (waitingIn head.line) }
-    ensures { result ≡ sent_in head way }
+// The slot has sent its frame.
+pub fn send(head: &mut Head, way: Way)
+    requires { (head.old.core.device.settings.communication.inhibit ≤ 0xFFFF) × (Holds places head.old.line (waitingIn head.old.line)) }
+    ensures { head.new ≡ sent_in head.old way }
 {
     match way {
-        slot::BOOTS => booted(head),
-        slot::ANNOUNCES => announced(head),
-        slot::SENDS => taken(head),
-        _ => head,
+        Way::Boots => booted(head),
+        Way::Announces => announced(head),
+        Way::Sends => taken(head),
     }
 }
 
-fn booted(head: Head) -> Head
-    ensures { result ≡ booted_in head }
+fn booted(head: &mut Head)
+    ensures { head.new ≡ booted_in head.old }
 {
     let left = slot::boot(
         head.core.device.settings.communication.emergency,
         head.core.device.reading.good,
     );
-    let state = left.nmt;
+    head.core.nmt = left.nmt;
     let line = left.line;
-    let transfer = head.transfer;
-    let mut core = head.core;
-    core.nmt = state;
-    Head {
-        line,
-        transfer,
-        core,
-    }
+    head.line = line;
 }
 
-fn announced(head: Head) -> Head
-    requires inhibit_bound { head.core.device.settings.communication.inhibit ≤ 0xFFFF }
-    requires holds { Holds places head.line (waitingIn head.line) }
-    ensures { result ≡ announced_in head }
+fn announced(head: &mut Head)
+    requires inhibit_bound { head.old.core.device.settings.communication.inhibit ≤ 0xFFFF }
+    requires holds { Holds places head.old.line (waitingIn head.old.line) }
+    ensures { head.new ≡ announced_in head.old }
 {
-    let waiting = head.line;
     let left = slot::announce(
         head.core.device.settings.communication.inhibit,
         head.core.device.reading.good,
-        waiting,
+        head.line,
     );
+    head.core.announced = left.announced;
+    head.core.timers.inhibit = left.inhibit;
     let line = left.line;
-    let transfer = head.transfer;
-    let mut core = head.core;
-    core.announced = left.announced;
-    core.timers.inhibit = left.inhibit;
-    Head {
-        line,
-        transfer,
-        core,
-    }
+    head.line = line;
 }
 
-fn taken(head: Head) -> Head
-    requires { Holds places head.line (waitingIn head.line) }
-    ensures { result ≡ taken_in head }
+fn taken(head: &mut Head)
+    requires { Holds places head.old.line (waitingIn head.old.line) }
+    ensures { head.new ≡ taken_in head.old }
 {
-    let waiting = head.line;
-    let left = slot::take(waiting);
-    let line = left.line;
-    let transfer = head.transfer;
-    let core = head.core;
-    Head {
-        line,
-        transfer,
-        core,
-    }
+    let left = slot::take(head.line);
+    head.line = left;
 }

@@ -13,16 +13,14 @@ ghost use Rattle.lent.specs.Questions.{state_code, is_good, position_of, any_wai
 ghost use Rattle.lent.specs.Steps.{sent_as};
 
 use can::Received;
-use nmt::entry;
+use head::{obeying, sending};
 use parts::{Head, Setup};
-use server::effect;
 use steps::slot::Outgoing;
 use steps::{hear, slot, tick};
-use tpdo::sync;
 
 mod question;
 
-// A position, if it is known. Otherwise the number is 0 and means nothing.
+// A position, if it is known. Otherwise the number is 0 and means nothing. A flag and a value, not an Option, for C.
 #[repr(C)]
 #[derive(Clone, Copy)]
 pub struct Located {
@@ -34,10 +32,9 @@ pub struct Located {
 pub fn haybleater_power_up(head: &mut Head, setup: Setup) -> u8
     ensures { PowersUp setup.node setup.identity (answered result head.new) }
 {
-    let refusal = head::refusal(setup);
     let powered = head::powered(setup);
     *head = powered;
-    refusal
+    can::number_in(head::checked(setup))
 }
 
 pub fn haybleater_receive(head: &mut Head, frame: Received) -> u8
@@ -51,121 +48,13 @@ pub fn haybleater_receive(head: &mut Head, frame: Received) -> u8
         head.line,
         frame,
     );
-    match heard.way {
-        hear::REPLIES => {
-            head.transfer = heard.transfer;
-            let left = effect::reply(head.line, heard.reply);
-            let reply = left.reply;
-            head.core.reply = reply;
-            let line = left.line;
-            head.line = line;
+    match heard {
+        Ok(heard) => {
+            obeying::obey(head, heard);
+            can::NO_REFUSAL
         }
-        hear::SYNCS => {
-            let left = sync::sync(
-                head.core.nmt,
-                head.core.device.settings,
-                head.core.timers,
-                head.core.device.reading,
-                head.core.fixed,
-                head.line,
-            );
-            head.core.timers = left.timers;
-            head.core.fixed = left.fixed;
-            let line = left.line;
-            head.line = line;
-        }
-        hear::CONFIGURES => {
-            head.transfer = heard.transfer;
-            let left = effect::configure(
-                head.core.nmt,
-                head.core.device.settings.communication,
-                head.core.timers,
-                head.core.device.reading.good,
-                head.core.announced,
-                head.line,
-                heard.reply,
-                heard.key,
-                heard.value,
-            );
-            head.core.device.settings.communication = left.communication;
-            head.core.timers = left.timers;
-            let reply = left.reply;
-            head.core.reply = reply;
-            let line = left.line;
-            head.line = line;
-        }
-        hear::SCALES => {
-            head.transfer = heard.transfer;
-            let left = effect::scale(
-                head.core.device.settings.profile,
-                head.core.device.reading.raw,
-                head.line,
-                heard.reply,
-                heard.key,
-                heard.value,
-            );
-            head.core.device.settings.profile = left.part;
-            let reply = left.reply;
-            head.core.reply = reply;
-            let line = left.line;
-            head.line = line;
-        }
-        hear::ENTERS => {
-            head.transfer = heard.transfer;
-            let left = entry::enter(
-                head.core.nmt,
-                head.core.device.settings.communication,
-                head.core.timers,
-                head.core.device.reading.good,
-                head.core.announced,
-                head.line,
-                heard.state,
-            );
-            head.core.nmt = left.nmt;
-            head.core.timers = left.timers;
-            let line = left.line;
-            head.line = line;
-        }
-        hear::RESETS => {
-            head.transfer = heard.transfer;
-            let left = entry::restart(head.core.device.settings, head.core.device.saved, heard.all);
-            head.core.device.settings = left.settings;
-            head.core.nmt = left.nmt;
-            head.core.announced = left.announced;
-            head.core.timers = left.timers;
-            let line = left.line;
-            head.line = line;
-        }
-        hear::SAVES => {
-            head.transfer = heard.transfer;
-            let left = effect::save(
-                head.core.device.node,
-                head.core.device.settings,
-                head.line,
-                heard.reply,
-                heard.key,
-            );
-            head.core.device.saved = left.part;
-            let reply = left.reply;
-            head.core.reply = reply;
-            let line = left.line;
-            head.line = line;
-        }
-        hear::EMPTIES => {
-            head.transfer = heard.transfer;
-            let left = effect::empty(head.line, heard.reply);
-            head.core.device.errors = left.part;
-            let reply = left.reply;
-            head.core.reply = reply;
-            let line = left.line;
-            head.line = line;
-        }
-        hear::ENDS => {
-            head.transfer = heard.transfer;
-        }
-        _ => {}
+        Err(refusal) => refusal.number(),
     }
-    heard.refusal
 }
 
 pub fn haybleater_tick(head: &mut Head)
@@ -180,20 +69,17 @@ pub fn haybleater_tick(head: &mut Head)
         head.core.announced,
     );
     head.core.timers = ticked.timers;
-    match ticked.way {
-        tick::SETTLES => {
-            let left = settling::joined(
-                head.line,
-                head.core.nmt,
-                head.core.device.settings.communication,
-                head.core.timers.inhibit,
-                head.core.device.reading.good,
-                head.core.announced,
-                ticked.due,
-            );
-            head.line = left;
-        }
-        _ => {}
+    if let Some(due) = ticked.due {
+        let left = settling::joined(
+            head.line,
+            head.core.nmt,
+            head.core.device.settings.communication,
+            head.core.timers.inhibit,
+            head.core.device.reading.good,
+            head.core.announced,
+            due,
+        );
+        head.line = left;
     }
 }
 
@@ -201,7 +87,7 @@ pub fn haybleater_sample(head: &mut Head, raw: u32) -> u8
     requires { Valid head.old }
     ensures { Samples head.old (Raw raw) (answered result head.new) }
 {
-    let left = samples::raw(
+    let sampled = samples::raw(
         head.core.nmt,
         head.core.device.settings.communication.emergency,
         head.core.timers.inhibit,
@@ -210,10 +96,15 @@ pub fn haybleater_sample(head: &mut Head, raw: u32) -> u8
         head.line,
         raw,
     );
-    head.core.device.reading = left.reading;
-    let line = left.line;
-    head.line = line;
-    left.refusal
+    match sampled {
+        Ok(left) => {
+            head.core.device.reading = left.reading;
+            let line = left.line;
+            head.line = line;
+            can::NO_REFUSAL
+        }
+        Err(refusal) => refusal.number(),
+    }
 }
 
 pub fn haybleater_missing(head: &mut Head)
@@ -248,35 +139,14 @@ pub fn haybleater_slot(head: &mut Head) -> Outgoing
         head.core.fixed,
         head.line,
     );
-    match slotted.way {
-        slot::BOOTS => {
-            let left = slot::boot(
-                head.core.device.settings.communication.emergency,
-                head.core.device.reading.good,
-            );
-            head.core.nmt = left.nmt;
-            let line = left.line;
-            head.line = line;
-        }
-        slot::ANNOUNCES => {
-            let left = slot::announce(
-                head.core.device.settings.communication.inhibit,
-                head.core.device.reading.good,
-                head.line,
-            );
-            head.core.announced = left.announced;
-            head.core.timers.inhibit = left.inhibit;
-            let line = left.line;
-            head.line = line;
-        }
-        slot::SENDS => {
-            let left = slot::take(head.line);
-            let line = left.line;
-            head.line = line;
-        }
-        _ => {}
+    let Some(slotted) = slotted else {
+        return Outgoing::NONE;
+    };
+    sending::send(head, slotted.way);
+    Outgoing {
+        waited: true,
+        frame: slotted.frame,
     }
-    slotted.outgoing
 }
 
 pub fn haybleater_state(head: &Head) -> u8

@@ -4,7 +4,7 @@
 
 ghost use Rattle.std.specs.Prelude.{◌≡◌};
 ghost use Rattle.promises.specs.States.{command_of, command as commandIn};
-ghost use Rattle.nmt.specs.Orders.{no_order, order_of, entering};
+ghost use Rattle.nmt.specs.Orders.{order_of, entering};
 
 use can::Received;
 use parts::Nmt;
@@ -23,65 +23,44 @@ const RESET_NODE: u8 = 0x81;
 
 const RESET_COMMUNICATION: u8 = 0x82;
 
-// What a command does: it enters a state, or resets all settings or those of communication, or does nothing.
+// What a command orders: entering a state, or a reset of all settings or of those of communication.
 #[derive(Clone, Copy)]
-pub struct Order {
-    pub enters: bool,
-    pub state: Nmt,
-    pub resets: bool,
-    pub all: bool,
+pub enum Order {
+    Enter(Nmt),
+    Reset { all: bool },
 }
 
 // What a frame with the identifier of NMT commands orders a head of this node in this state to do.
-pub fn ordered(state: Nmt, node: u8, frame: Received) -> Order
+pub fn ordered(state: Nmt, node: u8, frame: Received) -> Option<Order>
     ensures { result ≡ order_of state (command_of node frame) }
 {
     let bytes = frame.bytes;
     let named = bytes[1];
     if !((frame.length == COMMAND_LENGTH) & ((named == 0) | (named == node))) {
-        return none();
+        return None;
     }
     obeyed(state, bytes[0])
 }
 
-fn obeyed(state: Nmt, command: u8) -> Order
+fn obeyed(state: Nmt, command: u8) -> Option<Order>
     ensures { result ≡ order_of state (commandIn command) }
 {
-    if command == START {
-        return enter(state, Nmt::OPERATIONAL);
+    match command {
+        START => enter(state, Nmt::OPERATIONAL),
+        STOP => enter(state, Nmt::STOPPED),
+        ENTER_PRE_OPERATIONAL => enter(state, Nmt::PRE_OPERATIONAL),
+        RESET_NODE => Some(Order::Reset { all: true }),
+        RESET_COMMUNICATION => Some(Order::Reset { all: false }),
+        _ => None,
     }
-    if command == STOP {
-        return enter(state, Nmt::STOPPED);
-    }
-    if command == ENTER_PRE_OPERATIONAL {
-        return enter(state, Nmt::PRE_OPERATIONAL);
-    }
-    let mut order = none();
-    order.resets = (command == RESET_NODE) | (command == RESET_COMMUNICATION);
-    order.all = command == RESET_NODE;
-    order
 }
 
 // A command naming the present state has no effect.
-fn enter(present: Nmt, state: Nmt) -> Order
+fn enter(present: Nmt, state: Nmt) -> Option<Order>
     ensures { result ≡ entering present state }
 {
     if states::same(present, state) {
-        return none();
+        return None;
     }
-    let mut order = none();
-    order.enters = true;
-    order.state = state;
-    order
-}
-
-fn none() -> Order
-    ensures { result ≡ no_order }
-{
-    Order {
-        enters: false,
-        state: Nmt::INITIALISING,
-        resets: false,
-        all: false,
-    }
+    Some(Order::Enter(state))
 }

@@ -5,7 +5,9 @@ use Rattle.outcomes.specs.Asked.{Asked, LentAsked}
 pub asked : Asked
 asked =
     record {
-      can·refusal = λ κs a. tt;
+      can·Refusal·number = λ κs a. tt;
+      can·number_in = λ κs a. tt;
+      can·checked = λ κs a. tt;
       can·word = λ κs a. tt;
       can·long = λ κs a. tt;
       can·long_bytes = λ κs a. tt;
@@ -100,7 +102,7 @@ asked =
       steps·slot·take = λ κs a o. o;
       steps·tick·tick = λ κs a. tt;
       head·power_up = λ κs a. tt;
-      head·refusal = λ κs a. tt;
+      head·checked = λ κs a. tt;
       head·powered = λ κs a. tt;
       head·receive = λ κs a. valid_reachable a.0;
       head·tick = λ κs a. valid_reachable a.0;
@@ -131,6 +133,8 @@ asked =
 pub lent_asked : LentAsked
 lent_asked =
     record {
+      head·obeying·obey = λ κs a w. w;
+      head·sending·send = λ κs a r. let v = valid_reachable a.0.now r in (v.device.settings.communication.inhibit, v.line);
       lent·haybleater_power_up = λ κs a. tt;
       lent·haybleater_receive = λ κs a. valid_reachable a.0.now;
       lent·haybleater_tick = λ κs a. valid_reachable a.0.now;

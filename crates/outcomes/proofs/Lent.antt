@@ -2,8 +2,7 @@
 use mathlib.Core.Path.{◌≡◌, sym, ap, subst}
 use Rattle.parts.specs.declared.Head.{Head}
 use Rattle.parts.specs.declared.Answer.{Answer}
-use Rattle.parts.specs.declared.Sent.{Sent}
-use Rattle.promises.specs.Calls.{Call, receive, tick, sample, slot, step}
+use Rattle.promises.specs.Calls.{SlotAnswer, Call, receive, tick, sample, slot, step}
 use Rattle.promises.specs.Histories.{Reachable}
 use Rattle.promises.proofs.Demand1.{demand1}
 use Rattle.outcomes.specs.Lent.{Left, Lent}
@@ -22,8 +21,8 @@ lent =
       samples = λ s r h h' known so.
           (ap (λ (a : Answer). a.refusal) so.0, left (sample s) h h' known (ap (λ (a : Answer). a.head) so.0));
       slots = λ o h h' known so. (
-        ap (λ (s : Sent). s.waited) so.0,
-        ap (λ (s : Sent). s.frame) so.0,
-        left slot h h' known (ap (λ (s : Sent). s.head) so.0),
+        ap (λ (s : SlotAnswer). s.waited) so.0,
+        ap (λ (s : SlotAnswer). s.frame) so.0,
+        left slot h h' known (ap (λ (s : SlotAnswer). s.head) so.0),
       );
     }

@@ -1,14 +1,17 @@
 -- Proves `Outcomes` of specs/Outcomes.antt. Assumes nothing.
 use Prim.Native.Nat.{ℕ}
 use mathlib.Core.Path.{◌≡◌, refl, sym, ap, ◌∙◌}
-use Rattle.std.specs.Prelude.{Result}
+use mathlib.Core.Bool.{cond}
+use Rattle.std.specs.Prelude.{Result, Option, None, Some}
+use Rattle.can.specs.declared.Frame.{Frame}
+use Rattle.can.proofs.Refusals.{told_so}
 use Rattle.dictionary.specs.declared.abort.Abort.{Abort}
 use Rattle.dictionary.specs.AbortCodes.{code_in}
 use Rattle.dictionary.proofs.AbortCodes.{one_answer}
 use Rattle.parts.specs.declared.Head.{Head}
-use Rattle.parts.specs.declared.Answer.{Answer}
 use Rattle.parts.specs.declared.Sent.{Sent}
-use Rattle.promises.specs.Calls.{answered}
+use Rattle.parts.specs.declared.Answer.{Answer}
+use Rattle.promises.specs.Calls.{SlotAnswer, answered, sent_with, given, answer_in}
 use Rattle.steps.specs.declared.slot.Outgoing.{Outgoing}
 use Rattle.lent.specs.Steps.{sent_as}
 use Rattle.outcomes.specs.Outcomes.{Outcomes, LentOutcomes}
@@ -25,16 +28,30 @@ coded_alike x y l p q = λ i. (one_answer x.0 y.0 (p ∙ sym q) i, l i)
 answered_alike : {C : Type 0} {due : Answer} (x y : ℕ × (Head × C)) → x.1.1 ≡ y.1.1 → answered x.0 x.1.0 ≡ due → answered y.0 y.1.0 ≡ due → x ≡ y
 answered_alike x y l p q = λ i. (((p ∙ sym q) i).refusal, (((p ∙ sym q) i).head, l i))
 
-sent_alike : {C : Type 0} {due : Sent} (x y : Outgoing × (Head × C)) → x.1.1 ≡ y.1.1 → sent_as x.0 x.1.0 ≡ due → sent_as y.0 y.1.0 ≡ due → x ≡ y
+sent_alike : {C : Type 0} {due : SlotAnswer} (x y : Outgoing × (Head × C)) → x.1.1 ≡ y.1.1 → sent_as x.0 x.1.0 ≡ due → sent_as y.0 y.1.0 ≡ due → x ≡ y
 sent_alike x y l p q = λ i. (record { waited = ((p ∙ sym q) i).waited; frame = ((p ∙ sym q) i).frame }, (((p ∙ sym q) i).head, l i))
 
 left_alike : {A C : Type 0} {due : Head} (x y : A × (Head × C)) → x.0 ≡ y.0 → x.1.1 ≡ y.1.1 → x.1.0 ≡ due → y.1.0 ≡ due → x ≡ y
 left_alike x y k l p q = λ i. (k i, ((p ∙ sym q) i, l i))
 
+-- the answer of a slot by value is told by what `promises` says of it
+slot_with : SlotAnswer → Sent
+slot_with s = record { frame = cond s.waited (Some s.frame) None; head = s.head }
+
+slot_told : (f : Option Frame) (h : Head) → record { frame = f; head = h } ≡ slot_with (sent_with (given f) h)
+unfolding slot_with
+slot_told None h = refl
+slot_told (Some f) h = refl
+
+slot_so : {s : Sent} {a : SlotAnswer} → answer_in s ≡ a → s ≡ slot_with a
+slot_so {s} e = slot_told s.frame s.head ∙ ap slot_with e
+
 pub outcomes : Outcomes
 outcomes =
     record {
-      can·refusal = λ κs a x y. same x y refl;
+      can·Refusal·number = λ κs a x y. same x y refl;
+      can·number_in = λ κs a x y. same x y refl;
+      can·checked = λ κs a x y p q. same x y refl (told_so p) (told_so q);
       can·word = λ κs a x y. same x y refl;
       can·long = λ κs a x y. same x y refl;
       can·long_bytes = λ κs a x y. same x y refl;
@@ -129,14 +146,14 @@ outcomes =
       steps·slot·take = λ κs a x y. same x y refl;
       steps·tick·tick = λ κs a x y. same x y refl;
       head·power_up = λ κs a x y p q. same x y refl p.0 q.0;
-      head·refusal = λ κs a x y p q. same x y refl p.0 q.0;
+      head·checked = λ κs a x y p q. same x y refl (told_so p.0) (told_so q.0);
       head·powered = λ κs a x y p q. same x y refl p.0 q.0;
       head·receive = λ κs a x y p q. same x y refl p.0 q.0;
       head·tick = λ κs a x y p q. same x y refl p.0 q.0;
       head·sample = λ κs a x y p q. same x y refl p.0 q.0;
       head·sample_missing = λ κs a x y p q. same x y refl (ap (λ (r : Answer). r.head) p.0) (ap (λ (r : Answer). r.head) q.0);
       head·sample_raw = λ κs a x y p q. same x y refl p.0 q.0;
-      head·slot = λ κs a x y p q. same x y refl p.0 q.0;
+      head·slot = λ κs a x y p q. same x y refl (slot_so p.0) (slot_so q.0);
       lines·empty = λ κs a x y. same x y refl;
       lines·kept = λ κs a x y. same x y refl;
       lines·at_most = λ κs a x y. same x y refl;
@@ -160,6 +177,8 @@ outcomes =
 pub lent_outcomes : LentOutcomes
 lent_outcomes =
     record {
+      head·obeying·obey = λ κs a x y p q. left_alike x y refl refl p q;
+      head·sending·send = λ κs a x y p q. left_alike x y refl refl p q;
       lent·haybleater_power_up = λ κs a x y p q. answered_alike x y refl p.0 q.0;
       lent·haybleater_receive = λ κs a x y p q. answered_alike x y refl p.0 q.0;
       lent·haybleater_tick = λ κs a x y p q. left_alike x y refl refl p.0 q.0;

@@ -9,6 +9,7 @@ use Rattle.waiting.specs.Places.{waiting as waitingIn, Holds}
 use Rattle.promises.specs.Histories.{Reachable}
 use Rattle.promises.specs.Valid.{Valid}
 use Rattle.text.specs.Lines.{longest}
+use Rattle.head.specs.Writable.{Writable}
 use Rattle.can.specs.contracts as can
 use Rattle.names.specs.contracts as names
 use Rattle.waiting.specs.contracts as waiting
@@ -42,7 +43,9 @@ use Rattle.feeding.specs.contracts as feeding
 use Rattle.outcomes.specs.Outcome.{AsksNothingOf, AsksOnlyOf, AsksOnlyOfBoth}
 
 pub record Asked : Type 0 where
-  pub can·refusal : AsksNothingOf can.refusal.ended (λ M 𝓤. can.refusal.clauses) (λ M 𝓤 𝓛 m f κs a. (tt, λ g. refl))
+  pub can·Refusal·number : AsksNothingOf can.Refusal.number.ended (λ M 𝓤. can.Refusal.number.clauses) (λ M 𝓤 𝓛 m f κs a. (tt, λ g. refl))
+  pub can·number_in : AsksNothingOf can.number_in.ended (λ M 𝓤. can.number_in.clauses) (λ M 𝓤 𝓛 m f κs a. (tt, λ g. refl))
+  pub can·checked : AsksNothingOf can.checked.ended (λ M 𝓤. can.checked.clauses) (λ M 𝓤 𝓛 m f κs a. (tt, λ g. refl))
   pub can·word : AsksNothingOf can.word.ended (λ M 𝓤. can.word.clauses) (λ M 𝓤 𝓛 m f κs a. (tt, λ g. refl))
   pub can·long : AsksNothingOf can.long.ended (λ M 𝓤. can.long.clauses) (λ M 𝓤 𝓛 m f κs a. (tt, λ g. refl))
   pub can·long_bytes : AsksNothingOf can.long_bytes.ended (λ M 𝓤. can.long_bytes.clauses) (λ M 𝓤 𝓛 m f κs a. (tt, λ g. refl))
@@ -137,7 +140,7 @@ pub record Asked : Type 0 where
   pub steps·slot·take : AsksOnlyOf steps.slot.take.ended (λ κs a. Holds places a.0 (waitingIn a.0)) (λ M 𝓤. steps.slot.take.clauses) (λ M 𝓤 𝓛 m f κs a. (tt, λ g. refl))
   pub steps·tick·tick : AsksNothingOf steps.tick.tick.ended (λ M 𝓤. steps.tick.tick.clauses) (λ M 𝓤 𝓛 m f κs a. (tt, λ g. refl))
   pub head·power_up : AsksNothingOf head.power_up.ended (λ M 𝓤. head.power_up.clauses) (λ M 𝓤 𝓛 m f κs a. (tt, λ g. refl))
-  pub head·refusal : AsksNothingOf head.refusal.ended (λ M 𝓤. head.refusal.clauses) (λ M 𝓤 𝓛 m f κs a. (tt, λ g. refl))
+  pub head·checked : AsksNothingOf head.checked.ended (λ M 𝓤. head.checked.clauses) (λ M 𝓤 𝓛 m f κs a. (tt, λ g. refl))
   pub head·powered : AsksNothingOf head.powered.ended (λ M 𝓤. head.powered.clauses) (λ M 𝓤 𝓛 m f κs a. (tt, λ g. refl))
   -- Every head comes from power-up and is altered by calls only; the promises are for such heads.
   pub head·receive : AsksOnlyOf head.receive.ended (λ κs a. Reachable a.0) (λ M 𝓤. head.receive.clauses) (λ M 𝓤 𝓛 m f κs a. (tt, λ g. refl))
@@ -168,6 +171,8 @@ pub record Asked : Type 0 where
 
 -- The calls of `lent`, with what each requires.
 pub record LentAsked : Type 0 where
+  pub head·obeying·obey : AsksOnlyOf head.obeying.obey.ended (λ κs a. Writable a.0.now a.1.0) {Asked = λ κs a. Writable a.0.now a.1.0} (λ M 𝓤. head.obeying.obey.clauses) (λ M 𝓤 𝓛 m f κs a. (tt, λ g. refl))
+  pub head·sending·send : AsksOnlyOf head.sending.send.ended (λ κs a. Reachable a.0.now) {Asked = λ κs a. (a.0.now.core.device.settings.communication.inhibit ≤ 0xFFFF) × (Holds places a.0.now.line (waitingIn a.0.now.line))} (λ M 𝓤. head.sending.send.clauses) (λ M 𝓤 𝓛 m f κs a. (tt, λ g. refl))
   pub lent·haybleater_power_up : AsksNothingOf lent.haybleater_power_up.ended (λ M 𝓤. lent.haybleater_power_up.clauses) (λ M 𝓤 𝓛 m f κs a. (tt, λ g. refl))
   pub lent·haybleater_receive : AsksOnlyOf lent.haybleater_receive.ended (λ κs a. Reachable a.0.now) {Asked = λ κs a. Valid a.0.now} (λ M 𝓤. lent.haybleater_receive.clauses) (λ M 𝓤 𝓛 m f κs a. (tt, λ g. refl))
   pub lent·haybleater_tick : AsksOnlyOf lent.haybleater_tick.ended (λ κs a. Reachable a.0.now) {Asked = λ κs a. Valid a.0.now} (λ M 𝓤. lent.haybleater_tick.clauses) (λ M 𝓤 𝓛 m f κs a. (tt, λ g. refl))

@@ -3,7 +3,7 @@
 -- 01, chapter "The head and its neighbours".
 use mathlib.Core.Path.{refl}
 use Rattle.parts.specs.declared.Sensor.TheVariants.{Missing, Raw}
-use Rattle.promises.specs.Calls.{answered}
+use Rattle.promises.specs.Calls.{answered, answer_in}
 use Rattle.promises.specs.Promised.{PowersUp, Receives, Ticks, Samples, Slots}
 use Rattle.head.specs.contracts as head
 use Rattle.outcomes.specs.Outcome.{PromisesOf}
@@ -15,4 +15,4 @@ pub record ByValue : Type 0 where
   pub sample : PromisesOf head.sample.ended (λ κs a r e. Samples a.0 a.1.0 r) (λ M 𝓤. head.sample.clauses) (λ M 𝓤 𝓛 m f κs a g r e. refl)
   pub sample_missing_law : PromisesOf head.sample_missing.ended (λ κs a r e. Samples a.0 Missing (answered 0 r)) (λ M 𝓤. head.sample_missing.clauses) (λ M 𝓤 𝓛 m f κs a g r e. refl)
   pub sample_raw_law : PromisesOf head.sample_raw.ended (λ κs a r e. Samples a.0 (Raw a.1.0) r) (λ M 𝓤. head.sample_raw.clauses) (λ M 𝓤 𝓛 m f κs a g r e. refl)
-  pub slot : PromisesOf head.slot.ended (λ κs a r e. Slots a.0 r) (λ M 𝓤. head.slot.clauses) (λ M 𝓤 𝓛 m f κs a g r e. refl)
+  pub slot : PromisesOf head.slot.ended (λ κs a r e. Slots a.0 (answer_in r)) (λ M 𝓤. head.slot.clauses) (λ M 𝓤 𝓛 m f κs a g r e. refl)

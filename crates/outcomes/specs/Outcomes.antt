@@ -5,6 +5,8 @@ use mathlib.Core.Path.{refl}
 use Rattle.parts.specs.declared.Sensor.TheVariants.{Missing, Raw}
 use Rattle.promises.specs.Calls.{answered}
 use Rattle.promises.specs.Promised.{PowersUp, Receives, Ticks, Samples, Slots}
+use Rattle.steps.specs.Obey.{obeyed_in}
+use Rattle.steps.specs.Sent.{sent_in}
 use Rattle.lent.specs.Questions.{state_code, is_good, position_of, any_waits, goes_if_missing}
 use Rattle.lent.specs.Steps.{sent_as}
 use Rattle.can.specs.contracts as can
@@ -40,7 +42,9 @@ use Rattle.feeding.specs.contracts as feeding
 use Rattle.outcomes.specs.Outcome.{OneOutcomeOf, OneOutcomeOfBoth}
 
 pub record Outcomes : Type 0 where
-  pub can·refusal : OneOutcomeOf can.refusal.ended (λ M 𝓤. can.refusal.clauses) (λ M 𝓤 𝓛 m f κs a g r e. refl)
+  pub can·Refusal·number : OneOutcomeOf can.Refusal.number.ended (λ M 𝓤. can.Refusal.number.clauses) (λ M 𝓤 𝓛 m f κs a g r e. refl)
+  pub can·number_in : OneOutcomeOf can.number_in.ended (λ M 𝓤. can.number_in.clauses) (λ M 𝓤 𝓛 m f κs a g r e. refl)
+  pub can·checked : OneOutcomeOf can.checked.ended (λ M 𝓤. can.checked.clauses) (λ M 𝓤 𝓛 m f κs a g r e. refl)
   pub can·word : OneOutcomeOf can.word.ended (λ M 𝓤. can.word.clauses) (λ M 𝓤 𝓛 m f κs a g r e. refl)
   pub can·long : OneOutcomeOf can.long.ended (λ M 𝓤. can.long.clauses) (λ M 𝓤 𝓛 m f κs a g r e. refl)
   pub can·long_bytes : OneOutcomeOf can.long_bytes.ended (λ M 𝓤. can.long_bytes.clauses) (λ M 𝓤 𝓛 m f κs a g r e. refl)
@@ -135,7 +139,7 @@ pub record Outcomes : Type 0 where
   pub steps·slot·take : OneOutcomeOf steps.slot.take.ended (λ M 𝓤. steps.slot.take.clauses) (λ M 𝓤 𝓛 m f κs a g r e. refl)
   pub steps·tick·tick : OneOutcomeOf steps.tick.tick.ended (λ M 𝓤. steps.tick.tick.clauses) (λ M 𝓤 𝓛 m f κs a g r e. refl)
   pub head·power_up : OneOutcomeOf head.power_up.ended (λ M 𝓤. head.power_up.clauses) (λ M 𝓤 𝓛 m f κs a g r e. refl)
-  pub head·refusal : OneOutcomeOfBoth head.refusal.ended (λ M 𝓤. head.refusal.clauses) (λ M 𝓤 𝓛 m f κs a g r e. refl)
+  pub head·checked : OneOutcomeOfBoth head.checked.ended (λ M 𝓤. head.checked.clauses) (λ M 𝓤 𝓛 m f κs a g r e. refl)
   pub head·powered : OneOutcomeOf head.powered.ended (λ M 𝓤. head.powered.clauses) (λ M 𝓤 𝓛 m f κs a g r e. refl)
   pub head·receive : OneOutcomeOf head.receive.ended (λ M 𝓤. head.receive.clauses) (λ M 𝓤 𝓛 m f κs a g r e. refl)
   pub head·tick : OneOutcomeOf head.tick.ended (λ M 𝓤. head.tick.clauses) (λ M 𝓤 𝓛 m f κs a g r e. refl)
@@ -164,6 +168,8 @@ pub record Outcomes : Type 0 where
 
 -- The calls of `lent`, with what each ensures.
 pub record LentOutcomes : Type 0 where
+  pub head·obeying·obey : OneOutcomeOf head.obeying.obey.ended {This = λ κs a r e. e.0.now ≡ obeyed_in a.0.now a.1.0} (λ M 𝓤. head.obeying.obey.clauses) (λ M 𝓤 𝓛 m f κs a g r e. refl)
+  pub head·sending·send : OneOutcomeOf head.sending.send.ended {This = λ κs a r e. e.0.now ≡ sent_in a.0.now a.1.0} (λ M 𝓤. head.sending.send.clauses) (λ M 𝓤 𝓛 m f κs a g r e. refl)
   pub lent·haybleater_power_up : OneOutcomeOf lent.haybleater_power_up.ended {This = λ κs a r e. PowersUp a.1.0.node a.1.0.identity (answered r e.0.now)} (λ M 𝓤. lent.haybleater_power_up.clauses) (λ M 𝓤 𝓛 m f κs a g r e. refl)
   pub lent·haybleater_receive : OneOutcomeOf lent.haybleater_receive.ended {This = λ κs a r e. Receives a.0.now a.1.0 (answered r e.0.now)} (λ M 𝓤. lent.haybleater_receive.clauses) (λ M 𝓤 𝓛 m f κs a g r e. refl)
   pub lent·haybleater_tick : OneOutcomeOf lent.haybleater_tick.ended {This = λ κs a r e. Ticks a.0.now e.0.now} (λ M 𝓤. lent.haybleater_tick.clauses) (λ M 𝓤 𝓛 m f κs a g r e. refl)

@@ -8,13 +8,13 @@ use Rattle.outcomes.specs.Outcome.{OneOutcome, Promises, AsksNothing, AsksOnly}
 
 pub record Strong : Type 0 where
   -- a promise that says nothing allows two answers,
-  pub two_answers : OneOutcome can.refusal.ended (λ κs a r e. Unit) → ⊥
+  pub two_answers : OneOutcome can.checked.ended (λ κs a r e. Unit) → ⊥
   -- and, where there is no answer, two heads left behind `&mut`
   pub two_heads :
       (κs : Lfts (lent.haybleater_tick.ended).signature.lifetimes) → Args (lent.haybleater_tick.ended).signature κs
       → OneOutcome lent.haybleater_tick.ended (λ κs a r e. Unit) → ⊥
   -- a caller does not learn from it what is false
-  pub learns_more : Promises can.refusal.ended (λ κs a r e. ⊥) (λ κs a r e. Unit) → ⊥
+  pub learns_more : Promises can.checked.ended (λ κs a r e. ⊥) (λ κs a r e. Unit) → ⊥
   -- a call that takes no arguments at all requires something, and more than nothing
-  pub asks_something : AsksNothing can.refusal.ended (λ κs a. ⊥) → ⊥
-  pub asks_more : AsksOnly can.refusal.ended (λ κs a. Unit) (λ κs a. ⊥) → ⊥
+  pub asks_something : AsksNothing can.checked.ended (λ κs a. ⊥) → ⊥
+  pub asks_more : AsksOnly can.checked.ended (λ κs a. Unit) (λ κs a. ⊥) → ⊥

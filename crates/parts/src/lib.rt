@@ -73,7 +73,7 @@ pub struct Head {
 }
 
 // The number of a refusal, 0 for none, and the head, which a refused frame or sample leaves as it was.
-// Numbers 1 and 2 are `can::BAD_IDENTIFIER` and `can::BAD_LENGTH`, 0 is `can::NO_REFUSAL`.
+// A number and no Result: the promises of the calls (`Receives`, `Samples`, `PowersUp`) are about 01's numbers.
 #[repr(C)]
 #[derive(Clone, Copy)]
 pub struct Answer {
@@ -81,12 +81,10 @@ pub struct Answer {
     pub head: Head,
 }
 
-// The frame to send, if one waited, and the head. If none waited the frame is all 0 and must not be sent.
-#[repr(C)]
+// The frame to send, if one waited, and the head.
 #[derive(Clone, Copy)]
 pub struct Sent {
-    pub waited: bool,
-    pub frame: Frame,
+    pub frame: Option<Frame>,
     pub head: Head,
 }
 
@@ -98,7 +96,7 @@ pub struct Setup {
     pub identity: Identity,
 }
 
-// What the sensor gives.
+// What the sensor gives. It has the shape of an Option, but `Missing` says what is missing, and the promises name both cases.
 #[derive(Clone, Copy)]
 pub enum Sensor {
     Missing,

@@ -1,6 +1,7 @@
 -- The calls, what each means to a head in its state, and what it answers: 01, chapters "The head and its neighbours"
 -- and "Refusal numbers", with the conditions of "States", "The waiting line" (SYNC) and "Service requests".
 use Rattle.std.specs.Prelude.{ℕ, ◌+◌, eqb, leb, ltb, Bool, true, false, not, ◌&&◌, ◌||◌, cond, [], ◌∷◌, map}
+use Rattle.std.specs.Prelude.{Option as Given, None, Some}
 use Rattle.std.proofs.Math.Option.{Option, none, some}
 use Rattle.cases.specs.Cases.{first_of}
 use Rattle.cases.specs.Tests.{within}
@@ -187,5 +188,19 @@ abbrev pub frame_in : Option Frame → Frame
 frame_in none = no_frame
 frame_in (some f) = f
 
-abbrev pub sent_with : Option Frame → Head → Sent
+-- the answer of a slot and the head: a frame that is all 0 if none waited
+pub record SlotAnswer : Type 0 where
+  pub waited : Bool
+  pub frame : Frame
+  pub head : Head
+
+abbrev pub sent_with : Option Frame → Head → SlotAnswer
 sent_with f h = record { waited = is_frame f; frame = frame_in f; head = h }
+
+-- the same from what the code answers by value
+abbrev pub given : Given Frame → Option Frame
+given None = none
+given (Some f) = some f
+
+abbrev pub answer_in : Sent → SlotAnswer
+answer_in s = sent_with (given s.frame) s.head

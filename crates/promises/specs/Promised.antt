@@ -5,9 +5,8 @@ use Rattle.can.specs.declared.Received.{Received}
 use Rattle.entries.specs.declared.Identity.{Identity}
 use Rattle.parts.specs.declared.Head.{Head}
 use Rattle.parts.specs.declared.Answer.{Answer}
-use Rattle.parts.specs.declared.Sent.{Sent}
 use Rattle.parts.specs.declared.Sensor.{Sensor}
-use Rattle.promises.specs.Calls.{receive, tick, sample, slot, step, powered_up, refusal_by, slot_answer, is_frame, frame_in}
+use Rattle.promises.specs.Calls.{receive, tick, sample, slot, step, powered_up, refusal_by, SlotAnswer, slot_answer, is_frame, frame_in}
 use Rattle.promises.specs.Valid.{Valid}
 
 abbrev pub PowersUp : ℕ → Identity → Answer → Type 0
@@ -23,6 +22,6 @@ abbrev pub Samples : Head → Sensor → Answer → Type 0
 Samples h s r = (r ≡ record { refusal = refusal_by (sample s); head = step h (sample s) }) × Valid r.head
 
 -- one frame, or none
-abbrev pub Slots : Head → Sent → Type 0
+abbrev pub Slots : Head → SlotAnswer → Type 0
 Slots h r =
     (r ≡ record { waited = is_frame (slot_answer h); frame = frame_in (slot_answer h); head = step h slot }) × Valid r.head

@@ -2,6 +2,9 @@
 use Prim.Native.Nat.{ℕ}
 use native.Mathlib.Omega.{arith}
 use lib.Dec.{eqb}
+use Rattle.std.specs.Prelude.{Result, Ok, Err}
+use Rattle.can.specs.declared.Refusal.{Refusal}
+use Rattle.can.specs.Frame.{number_of}
 use mathlib.Core.Path.{◌≡◌, refl, sym, ap, ap₂, subst, ◌∙◌}
 use mathlib.Core.Bool.{Bool, true, false, not, ◌&&◌, beq, and-true, and-false, and-not_self, or-true, or-false}
 use mathlib.Core.List.{List, []}
@@ -103,10 +106,11 @@ module _ (h : Head) (v : Valid h) where
     unfolding act settled_to
     taken = ap (with_line (with_reading h (record { good = true; raw = raw }))) line_found
 
-    abbrev Sampling : Sampled → Type 0
-    Sampling z = Samples h (Raw raw) (answered z.refusal (with_line (with_reading h z.reading) z.line))
+    abbrev pub Sampling : Result Sampled Refusal → Type 0
+    Sampling (Err r) = Samples h (Raw raw) (answered (number_of r) h)
+    Sampling (Ok z) = Samples h (Raw raw) (answered 0 (with_line (with_reading h z.reading) z.line))
 
-    pub samples_raw :
+    samples_raw :
         Sampling (sampled_of c.nmt (communication c).emergency inhibit c.device.reading c.announced h.line raw)
     samples_raw =
         by Sampling (bad_sample (Raw raw))
@@ -118,6 +122,10 @@ module _ (h : Head) (v : Valid h) where
         let number : 0 ≡ refusal_by (sample (Raw raw)) = rw b in
         let p = taken ∙ sym (ap (act false h) m) ∙ act_step h (sample (Raw raw)) refl in
         (ap₂ answered number p, subst Valid (sym p) (valid_step h (sample (Raw raw)) v)))
+
+    pub samples_so : {z : Result Sampled Refusal}
+        → z ≡ sampled_of c.nmt (communication c).emergency inhibit c.device.reading c.announced h.line raw → Sampling z
+    samples_so e = subst Sampling (sym e) samples_raw
 
   -- those that go when a good reading goes missing
   abbrev gone : Kind → Bool

@@ -1,6 +1,8 @@
 -- What a sample changes in the parts of a head, as the code computes it: 01, chapters "States" and "The waiting line".
 -- Reviewers can skip this file: proofs/Samples.antt proves that the head with these parts is what `promises` says.
-use Rattle.std.specs.Prelude.{ℕ, suc, eqb, ltb, Bool, true, false, not, ◌&&◌, cond, List}
+use Rattle.std.specs.Prelude.{ℕ, suc, eqb, ltb, Bool, true, false, not, ◌&&◌, cond, List, Result, Ok, Err}
+use Rattle.can.specs.declared.Refusal.{Refusal}
+use Rattle.can.specs.declared.Refusal.TheVariants.{BadSample}
 use Rattle.entries.specs.declared.Communication.{Communication}
 use Rattle.entries.specs.declared.Reading.{Reading}
 use Rattle.waiting.specs.Line.{emergency, tpdo1, tpdo2, first}
@@ -24,11 +26,11 @@ found_line s identifier inhibit good announced l =
     let alerts = if_due (free s identifier inhibit) emergency in
     cond good l (cond announced (withdraws_in l alerts) (joins_in l alerts))
 
-abbrev pub sampled_of : Nmt → ℕ → ℕ → Reading → Bool → List ℕ → ℕ → Sampled
+abbrev pub sampled_of : Nmt → ℕ → ℕ → Reading → Bool → List ℕ → ℕ → Result Sampled Refusal
 sampled_of s identifier inhibit r announced l raw =
     cond (bad_sample (Raw raw))
-    (record { refusal = 3; reading = r; line = l })
-    (record { refusal = 0; reading = record { good = true; raw = raw }; line = found_line s identifier inhibit r.good announced l })
+    (Err BadSample)
+    (Ok (record { reading = record { good = true; raw = raw }; line = found_line s identifier inhibit r.good announced l }))
 
 -- the line once the position frames of types 254 and 255 and an emergency that told "good" have gone
 abbrev pub left_line : Nmt → Communication → ℕ → Bool → List ℕ → List ℕ

@@ -7,11 +7,10 @@ ghost use Rattle.parts.specs.declared.Sensor.TheVariants.{Raw};
 ghost use Rattle.promises.specs.Calls.{bad_sample};
 ghost use Rattle.samples.specs.Samples.{sampled_of, found_line, missed_of, lost_line, one_more_error};
 
+use can::Refusal;
 use entries::{Communication, Reading};
 use parts::Nmt;
 use waiting::{EMERGENCY, EMPTY, Line, TPDO1, TPDO2};
-
-pub const BAD_SAMPLE: u8 = 3;
 
 pub const HIGHEST_RAW: u32 = 1_048_575;
 
@@ -19,12 +18,11 @@ const MOST_ERRORS: u32 = 4;
 
 #[derive(Clone, Copy)]
 pub struct Sampled {
-    pub refusal: u8,
     pub reading: Reading,
     pub line: Line,
 }
 
-// A raw position; one above 1,048,575 is refused and changes nothing.
+// A raw position; one above 1,048,575 is refused, and changes nothing.
 pub fn raw(
     state: Nmt,
     emergency: u32,
@@ -33,18 +31,13 @@ pub fn raw(
     announced: bool,
     line: Line,
     raw: u32,
-) -> Sampled
+) -> Result<Sampled, Refusal>
     ensures { result ≡ sampled_of state emergency inhibit_ticks reading announced line raw }
 {
     if is_refused(raw) {
-        return Sampled {
-            refusal: BAD_SAMPLE,
-            reading,
-            line,
-        };
+        return Err(Refusal::BadSample);
     }
-    Sampled {
-        refusal: can::NO_REFUSAL,
+    Ok(Sampled {
         reading: Reading { good: true, raw },
         line: found(
             state,
@@ -54,7 +47,7 @@ pub fn raw(
             announced,
             line,
         ),
-    }
+    })
 }
 
 // The line once the reading is good. If it was good before, the line stays.

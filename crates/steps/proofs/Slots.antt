@@ -7,9 +7,11 @@ use mathlib.Core.Path.{◌≡◌, refl, sym, ap, ap₂, subst, ◌∙◌}
 use mathlib.Core.Logic.{⊎_elim}
 use mathlib.Core.Bool.{Bool, true, false, not, ◌&&◌, beq, and-true, and-false, and-not_self}
 use mathlib.Core.List.{List, [], ◌∷◌}
-use borrow.Author.Tests.{eqb-true, eqb-false}
+use mathlib.Core.Option.{Option, none, some}
+use Rattle.std.specs.Prelude.{Option as Given, None, Some}
+use borrow.Author.Tests.{eqb-true}
 use Rattle.cases.specs.Padded.{pad}
-use Rattle.cases.proofs.Cases.{by, by₂, test, true_false}
+use Rattle.cases.proofs.Cases.{by, by₂, test}
 use Rattle.can.specs.declared.Frame.{Frame}
 use Rattle.dictionary.specs.Accepted.{on}
 use Rattle.waiting.specs.Line.{places, has, first}
@@ -18,15 +20,14 @@ use Rattle.waiting.specs.Calls.{joins_in, withdraws_in, if_due}
 use Rattle.waiting.proofs.After.{has_drop}
 use Rattle.waiting.proofs.Unmoved.{keeps_place, takes_none}
 use Rattle.waiting.proofs.Laws.{laws}
-use Rattle.parts.specs.Put.{with_line, with_nmt, with_announced, with_inhibit}
+use Rattle.parts.specs.Put.{with_line}
 use Rattle.parts.specs.declared.Core.{Core}
 use Rattle.parts.specs.declared.Head.{Head}
-use Rattle.parts.specs.declared.Sent.{Sent}
 use Rattle.promises.specs.States.{one, two, is_initialising, node, communication, good}
 use Rattle.promises.specs.WaitingLine.{Kind, emergency, sdo_reply, heartbeat, tpdo, number, is_alerting, may_stay, frame}
-use Rattle.promises.specs.Acts.{Act, boot, send, acted, announcing, booted, moments_of}
+use Rattle.promises.specs.Acts.{Act, boot, idle, send, acted, announcing, booted, moments_of}
 use Rattle.promises.specs.Acts.{emergency_only, goes, comes, settled_to, act, frame_by}
-use Rattle.promises.specs.Calls.{slot, sent_by, is_frame, frame_in, sent_with}
+use Rattle.promises.specs.Calls.{SlotAnswer, slot, step, sent_by, is_frame, frame_in, sent_with}
 use Rattle.promises.specs.Valid.{Valid}
 use Rattle.promises.specs.Promised.{Slots}
 use Rattle.promises.proofs.Nothing.{act_step}
@@ -34,7 +35,10 @@ use Rattle.promises.proofs.KindNumbers.{first_of_law, sent_as_law}
 use Rattle.promises.proofs.Slots.{no_stay, none_waits, sent_by_law}
 use Rattle.promises.proofs.Valid.{valid_step}
 use Rattle.steps.specs.declared.slot.Slotted.{Slotted}
-use Rattle.steps.specs.Slot.{slot_way, slotted_of, booted_of, announced_of, taken_of}
+use Rattle.steps.specs.declared.slot.Way.{Way}
+use Rattle.steps.specs.declared.slot.Way.TheVariants.{Boots, Announces, Sends}
+use Rattle.steps.specs.Slot.{slot_way, slot_frame, in_way, slotted_of, booted_of}
+use Rattle.steps.specs.Sent.{booted_in, announced_in, sent_in}
 
 same : (b : Bool) → beq b b ≡ true
 same true = refl
@@ -43,6 +47,10 @@ same false = refl
 differs_from_good : (b : Bool) → not (beq b true) ≡ not b
 differs_from_good true = refl
 differs_from_good false = refl
+
+abbrev sends : Given Way → Bool
+sends None = false
+sends (Some w) = true
 
 module _ (h : Head) (v : Valid h) where
   abbrev c : Core
@@ -92,19 +100,11 @@ module _ (h : Head) (v : Valid h) where
       (λ m. keeps_place held 1 (omega arith) (omega arith) (left_has 1 ∙ rw (e, v.urgent m)))
       (λ _. refl))
 
-  abbrev boot_left : Head
-  boot_left = let o = booted_of (communication c).emergency (good c) in with_line (with_nmt h o.nmt) o.line
-
-  abbrev announce_left : Head
-  announce_left =
-      let o = announced_of (communication c).inhibit (good c) h.line in
-      with_line (with_inhibit (with_announced h o.announced) o.inhibit) o.line
-
-  boots : is_initialising c ≡ true → boot_left ≡ act true h boot
+  boots : is_initialising c ≡ true → booted_in h ≡ act true h boot
   unfolding act settled_to
   boots i = rw (line_booted i, (v.fresh i).1)
 
-  announces : eqb k 1 ≡ true → announce_left ≡ act true h (send emergency)
+  announces : eqb k 1 ≡ true → announced_in h ≡ act true h (send emergency)
   unfolding act settled_to
   announces e = rw (line_announced e)
 
@@ -126,10 +126,13 @@ module _ (h : Head) (v : Valid h) where
       (by P (eqb k 2) (λ _. refl) (λ _. by P (eqb k 3) (λ _. refl) (λ _.
       by P (eqb k 4) (λ _. refl) (λ _. by P (eqb k 5) (λ _. refl) (λ _. refl)))))
 
-  abbrev z : Slotted
-  z = slotted_of (node c) c.nmt c.device.settings c.device.reading c.reply c.fixed h.line
+  abbrev its_frame : Frame
+  its_frame = slot_frame (node c) c.nmt c.device.settings c.device.reading c.reply c.fixed k
 
-  frame_sent : z.outgoing.frame ≡ frame_in (frame_by c (sent_by c k))
+  abbrev due : Option Frame
+  due = frame_by c (sent_by c k)
+
+  frame_sent : its_frame ≡ frame_in due
   frame_sent =
       let P : Frame → Act → Type 0 = λ f a. f ≡ frame_in (frame_by c a) in
       by₂ P (is_initialising c)
@@ -138,7 +141,7 @@ module _ (h : Head) (v : Valid h) where
       by₂ P (eqb k 4) (λ _. refl) (λ _. by₂ P (eqb k 5) (λ _. refl) (λ _. refl))))))
 
   abbrev Waits : ℕ → Type 0
-  Waits n = not (eqb (slot_way c.nmt n) 0) ≡ is_frame (frame_by c (sent_by c n))
+  Waits n = sends (slot_way c.nmt n) ≡ is_frame (frame_by c (sent_by c n))
 
   kind_waits : (j : Kind) → Waits (number j)
   kind_waits emergency = test (is_initialising c) (λ i. rw i) (λ i. rw i)
@@ -156,60 +159,46 @@ module _ (h : Head) (v : Valid h) where
       (λ u. rw u.1 (kind_waits u.0))
       (first_of_law (waiting h.line) v.line.kinds))
 
-  abbrev sent : Head → Sent
-  sent r = record { waited = z.outgoing.waited; frame = z.outgoing.frame; head = r }
-
-  -- a head that is what a slot makes of a valid one
-  leaves : {r : Head} → r ≡ act true h (sent_by c k) → Slots h (sent r)
-  leaves {r} x = let e = x ∙ act_step h slot refl in (
-    ap₂ {C = Sent} (λ w f. record { waited = w; frame = f; head = r }) waited frame_sent ∙ ap (sent_with (frame_by c (sent_by c k))) e,
+  -- a head that is what a slot makes of a valid one, with the frame
+  leaves : {r : Head} → true ≡ is_frame due → r ≡ act true h (sent_by c k) → Slots h (sent_with (some its_frame) r)
+  leaves {r} w x = let e = x ∙ act_step h slot refl in (
+    ap₂ {C = SlotAnswer} (λ w f. record { waited = w; frame = f; head = r }) w frame_sent ∙ ap (sent_with due) e,
     subst Valid (sym e) (valid_step h slot v),
   )
 
-  each_way : (P : ℕ → Type 0)
-      → (is_initialising c ≡ true → P 1)
-      → (is_initialising c ≡ false → eqb k 0 ≡ true → P 0)
-      → (is_initialising c ≡ false → eqb k 1 ≡ true → P 2)
-      → (is_initialising c ≡ false → eqb k 1 ≡ false → P 3)
+  each_way : (P : Given Way → Type 0)
+      → (is_initialising c ≡ true → P (Some Boots))
+      → (is_initialising c ≡ false → eqb k 0 ≡ true → P None)
+      → (is_initialising c ≡ false → eqb k 1 ≡ true → P (Some Announces))
+      → (is_initialising c ≡ false → eqb k 1 ≡ false → P (Some Sends))
       → P (slot_way c.nmt k)
   each_way P b n a s = by P (is_initialising c) b (λ i. by P (eqb k 0) (n i) (λ _. by P (eqb k 1) (a i) (s i)))
-
-  pub slots_booting : z.way ≡ 1 → Slots h (sent boot_left)
-  slots_booting =
-      each_way (λ w. w ≡ 1 → Slots h (sent boot_left))
-      (λ i _. let m : sent_by c k ≡ boot = rw i in leaves (boots i ∙ ap (act true h) (sym m)))
-      (λ _ _ w. absurd (eqb-false 0 1 refl w))
-      (λ _ _ w. absurd (eqb-false 2 1 refl w))
-      (λ _ _ w. absurd (eqb-false 3 1 refl w))
-
-  pub slots_announcing : z.way ≡ 2 → Slots h (sent announce_left)
-  slots_announcing =
-      each_way (λ w. w ≡ 2 → Slots h (sent announce_left))
-      (λ _ w. absurd (eqb-false 1 2 refl w))
-      (λ _ _ w. absurd (eqb-false 0 2 refl w))
-      (λ i e _.
-      let m : sent_by c k ≡ send emergency = rw (eqb-true k 1 e) (sent_by_law c emergency i) in
-      leaves (announces e ∙ ap (act true h) (sym m)))
-      (λ _ _ w. absurd (eqb-false 3 2 refl w))
-
-  pub slots_sending : z.way ≡ 3 → Slots h (sent (with_line h (taken_of h.line).line))
-  slots_sending =
-      each_way (λ w. w ≡ 3 → Slots h (sent (with_line h left)))
-      (λ _ w. absurd (eqb-false 1 3 refl w))
-      (λ _ _ w. absurd (eqb-false 0 3 refl w))
-      (λ _ _ w. absurd (eqb-false 2 3 refl w))
-      (λ i e _. leaves (keeps e (sent_by c k) (core_kept i e) moments_kept))
 
   none_left : eqb k 0 ≡ true → h.line ≡ left
   none_left n =
       sym (takes_none (subst (Holds places h.line) ((laws places).idle v.line (eqb-true k 0 n)) v.line) k refl)
 
-  pub slots_none : eqb z.way 1 ≡ false → eqb z.way 2 ≡ false → eqb z.way 3 ≡ false → Slots h (sent h)
-  slots_none =
-      each_way (λ w. eqb w 1 ≡ false → eqb w 2 ≡ false → eqb w 3 ≡ false → Slots h (sent h))
-      (λ _ w _ _. true_false w)
-      (λ i n _ _ _.
+  -- the call's promise, for each thing that a slot may send
+  abbrev pub Sending : Given Slotted → Type 0
+  Sending None = Slots h (sent_with none h)
+  Sending (Some s) = Slots h (sent_with (some s.frame) (sent_in h s.way))
+
+  pub slots : Sending (slotted_of (node c) c.nmt c.device.settings c.device.reading c.reply c.fixed h.line)
+  slots =
+      each_way (λ w. sends w ≡ is_frame due → Sending (in_way its_frame w))
+      (λ i w. let m : sent_by c k ≡ boot = rw i in leaves w (boots i ∙ ap (act true h) (sym m)))
+      (λ i n _.
       let e : eqb k 1 ≡ false = rw (eqb-true k 0 n) in
-      leaves (ap (with_line h) (none_left n) ∙ keeps e (sent_by c k) (core_kept i e) moments_kept))
-      (λ _ _ _ w _. true_false w)
-      (λ _ _ _ _ w. true_false w)
+      let m : sent_by c k ≡ idle = rw (i, eqb-true k 0 n) in
+      let p : h ≡ step h slot =
+      ap (with_line h) (none_left n) ∙ keeps e (sent_by c k) (core_kept i e) moments_kept ∙ act_step h slot refl in
+      (ap₂ {C = SlotAnswer} (λ a r. sent_with (frame_by c a) r) (sym m) p, v))
+      (λ i e w.
+      let m : sent_by c k ≡ send emergency = rw (eqb-true k 1 e) (sent_by_law c emergency i) in
+      leaves w (announces e ∙ ap (act true h) (sym m)))
+      (λ i e w. leaves w (keeps e (sent_by c k) (core_kept i e) moments_kept))
+      waited
+
+  pub slots_so : {z : Given Slotted}
+      → z ≡ slotted_of (node c) c.nmt c.device.settings c.device.reading c.reply c.fixed h.line → Sending z
+  slots_so e = subst Sending (sym e) slots

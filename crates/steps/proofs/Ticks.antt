@@ -4,7 +4,8 @@ use lib.Dec.{eqb}
 use mathlib.Core.Path.{◌≡◌, refl, sym, ap, ap₂, subst, ◌∙◌}
 use mathlib.Core.Bool.{Bool, true, false, not, ◌&&◌, ◌||◌, beq, and-false, and-not_self}
 use mathlib.Core.List.{List, [], ◌∷◌}
-use borrow.Author.Tests.{eqb-true, eqb-false}
+use borrow.Author.Tests.{eqb-true}
+use Rattle.std.specs.Prelude.{Option, None, Some}
 use Rattle.cases.proofs.Cases.{by, test, true_false}
 use Rattle.entries.specs.declared.Pdo.{Pdo}
 use Rattle.waiting.specs.Calls.{joins_in, withdraws_in, flagged}
@@ -22,9 +23,11 @@ use Rattle.promises.specs.Valid.{Valid}
 use Rattle.promises.specs.Promised.{Ticks}
 use Rattle.promises.proofs.Nothing.{act_nothing, act_step}
 use Rattle.promises.proofs.Valid.{valid_step}
+use Rattle.counting.specs.Periods.{one_more}
+use Rattle.tpdo.specs.Moments.{event_count}
 use Rattle.settling.specs.Joined.{may_join_at, joined_by}
 use Rattle.steps.specs.declared.tick.Ticked.{Ticked}
-use Rattle.steps.specs.Tick.{tick_way, event_clock, counted_on, ticked_of}
+use Rattle.steps.specs.Tick.{event_clock, counted_on, ticked_of}
 
 -- an inhibit time that runs down ends no emergency
 runs_down : (live on differs : Bool) (n : ℕ)
@@ -60,15 +63,30 @@ module _ (h : Head) (v : Valid h) where
   abbrev counted : Ticked
   counted = counted_on (is_in operational c) (communication c) c.timers (good c) c.announced
 
-  abbrev settled : Ticked → Head
-  settled z =
-      with_line (with_timers h z.timers)
-      (joined_by h.line c.nmt (communication c) z.timers.inhibit (good c) c.announced z.due)
+  abbrev beats : Bool
+  beats = (one_more (communication c).heartbeat c.timers.heartbeat).ends
+
+  abbrev shows1 : Bool
+  shows1 = (event_count (is_in operational c) (communication c).pdo1 c.timers.pdo1.ticks).ends
+
+  abbrev shows2 : Bool
+  shows2 = (event_count (is_in operational c) (communication c).pdo2 c.timers.pdo2.ticks).ends
+
+  abbrev differs : Bool
+  differs = not (beq (good c) c.announced)
+
+  abbrev flags : List Bool
+  flags = true ∷ false ∷ beats ∷ shows1 ∷ shows2 ∷ []
+
+  -- the head with these timers, and with those that are due in the line
+  abbrev settled : Timers → Option (List Bool) → Head
+  settled t None = with_timers h t
+  settled t (Some due) = with_line (with_timers h t) (joined_by h.line c.nmt (communication c) t.inhibit (good c) c.announced due)
 
   -- who joins, of those that the step says are due
   abbrev joining : Kind → Bool
   joining k =
-      flagged counted.due (number k) && may_join_at c.nmt (communication c) counted.timers.inhibit (good c) c.announced k
+      flagged flags (number k) && may_join_at c.nmt (communication c) counted.timers.inhibit (good c) c.announced k
 
   alike : (k : Kind) → joining k ≡ (time_moments (communication c) c.timers k && may_join (acted c time) k)
   alike emergency = refl
@@ -84,7 +102,7 @@ module _ (h : Head) (v : Valid h) where
       (clock_runs o (communication c).pdo1 c.timers.pdo1)
       (clock_runs o (communication c).pdo2 c.timers.pdo2)
 
-  joins : is_initialising c ≡ false → settled counted ≡ act false h (meant h tick)
+  joins : is_initialising c ≡ false → settled counted.timers (Some flags) ≡ act false h (meant h tick)
   unfolding act settled_to
   joins runs =
       let m : timed c ≡ time = rw runs in
@@ -98,7 +116,7 @@ module _ (h : Head) (v : Valid h) where
 
   -- no kind is due, and the reading is the one last announced: none joins
   none_joins : (a b d e : Bool)
-      → eqb (tick_way (((a || b) || d) || e)) 1 ≡ false
+      → (((a || b) || d) || e) ≡ false
       → (a ≡ false) × (b ≡ false) × (d ≡ false) × (e ≡ false)
   none_joins false false false false w = (refl, refl, refl, refl)
   none_joins true b d e w = true_false w
@@ -106,14 +124,11 @@ module _ (h : Head) (v : Valid h) where
   none_joins false false true e w = true_false w
   none_joins false false false true w = true_false w
 
-  stays : eqb counted.way 1 ≡ false → joins_in h.line (those joining) ≡ h.line
+  stays : (((beats || shows1) || shows2) || differs) ≡ false → joins_in h.line (those joining) ≡ h.line
   stays w = ap (joins_in h.line) (those_alike joining (λ _. false) none)
     where
-      n : (flagged counted.due 3 ≡ false) × (flagged counted.due 4 ≡ false) × (flagged counted.due 5 ≡ false)
-          × (not (beq (good c) c.announced) ≡ false)
-      n =
-          let due = flagged counted.due in
-          none_joins (due 3) (due 4) (due 5) (not (beq (good c) c.announced)) w
+      n : (beats ≡ false) × (shows1 ≡ false) × (shows2 ≡ false) × (differs ≡ false)
+      n = none_joins beats shows1 shows2 differs w
 
       none : (k : Kind) → joining k ≡ false
       none emergency = simp (n.3, and-false)
@@ -126,17 +141,18 @@ module _ (h : Head) (v : Valid h) where
   leaves : {r : Head} → r ≡ act false h (meant h tick) → Ticks h r
   leaves x = let e = x ∙ act_step h tick refl in (e, subst Valid (sym e) (valid_step h tick v))
 
-  abbrev z : Ticked
-  z = ticked_of c.nmt (communication c) c.timers (good c) c.announced
+  abbrev pub Ticking : Timers → Option (List Bool) → Type 0
+  Ticking t due = Ticks h (settled t due)
 
-  pub ticks_settling : z.way ≡ 1 → Ticks h (settled z)
-  ticks_settling =
-      by (λ (y : Ticked). y.way ≡ 1 → Ticks h (settled y)) (is_initialising c)
-      (λ _ w. absurd (eqb-false 0 1 refl w))
-      (λ runs _. leaves (joins runs))
+  ticks :
+      let z = ticked_of c.nmt (communication c) c.timers (good c) c.announced in
+      Ticking z.timers z.due
+  ticks =
+      by (λ (y : Ticked). Ticking y.timers y.due) (is_initialising c)
+      (λ stands. leaves (sym (act_nothing h) ∙ ap (act false h) (rw stands)))
+      (λ runs. by (Ticking counted.timers) (((beats || shows1) || shows2) || differs)
+      (λ _. leaves (joins runs))
+      (λ w. leaves (ap (with_line (with_timers h counted.timers)) (sym (stays w)) ∙ joins runs)))
 
-  pub ticks_resting : eqb z.way 1 ≡ false → Ticks h (with_timers h z.timers)
-  ticks_resting =
-      by (λ (y : Ticked). eqb y.way 1 ≡ false → Ticks h (with_timers h y.timers)) (is_initialising c)
-      (λ stands _. leaves (sym (act_nothing h) ∙ ap (act false h) (rw stands)))
-      (λ runs w. leaves (ap (with_line (with_timers h counted.timers)) (sym (stays w)) ∙ joins runs))
+  pub ticks_so : {z : Ticked} → z ≡ ticked_of c.nmt (communication c) c.timers (good c) c.announced → Ticking z.timers z.due
+  ticks_so e = subst (λ (y : Ticked). Ticking y.timers y.due) (sym e) ticks

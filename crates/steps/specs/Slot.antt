@@ -1,6 +1,6 @@
 -- What a slot answers, which way it goes, and what sending changes in the parts of a head, as the code computes it: 01, chapter "The
 -- waiting line". Reviewers can skip this file: proofs/Slots.antt proves that the head with these parts is what `promises` says.
-use Rattle.std.specs.Prelude.{ℕ, ◌+◌, eqb, Bool, not, ◌&&◌, cond, List, [], ◌∷◌}
+use Rattle.std.specs.Prelude.{ℕ, ◌+◌, eqb, Bool, not, ◌&&◌, cond, List, [], ◌∷◌, Option, None, Some}
 use Rattle.cases.specs.Padded.{pad}
 use Rattle.can.specs.declared.Frame.{Frame}
 use Rattle.can.specs.Number.{low_first}
@@ -23,11 +23,15 @@ use Rattle.server.specs.Replies.{reply_frame}
 use Rattle.steps.specs.declared.slot.Announced.{Announced}
 use Rattle.steps.specs.declared.slot.Booted.{Booted}
 use Rattle.steps.specs.declared.slot.Slotted.{Slotted}
-use Rattle.steps.specs.declared.slot.Taken.{Taken}
+use Rattle.steps.specs.declared.slot.Way.{Way}
+use Rattle.steps.specs.declared.slot.Way.TheVariants.{Boots, Announces, Sends}
 
--- 1: the boot-up frame is sent; 0: none; 2: the emergency; 3: another kind
-abbrev pub slot_way : Nmt → ℕ → ℕ
-slot_way s k = cond (eqb s.code initialising_code) 1 (cond (eqb k 0) 0 (cond (eqb k line.emergency) 2 3))
+-- the boot-up frame is sent, or none, the emergency, another kind
+abbrev pub slot_way : Nmt → ℕ → Option Way
+slot_way s k =
+    cond (eqb s.code initialising_code) (Some Boots)
+    (cond (eqb k 0) None
+    (cond (eqb k line.emergency) (Some Announces) (Some Sends)))
 
 abbrev pub state_frame : ℕ → Nmt → Frame
 state_frame node s = frame (0x700 + node) 1 (s.code ∷ [])
@@ -50,13 +54,13 @@ kind_frame node s settings r reply x k =
 abbrev pub slot_frame : ℕ → Nmt → Settings → Reading → List ℕ → Fixed → ℕ → Frame
 slot_frame node s settings r reply x k = cond (eqb s.code initialising_code) (state_frame node s) (kind_frame node s settings r reply x k)
 
-abbrev pub slotted_of : ℕ → Nmt → Settings → Reading → List ℕ → Fixed → List ℕ → Slotted
-slotted_of node s settings r reply x l =
-    let way = slot_way s (first l) in
-    record {
-      outgoing = record { waited = not (eqb way 0); frame = slot_frame node s settings r reply x (first l) };
-      way = way;
-    }
+-- this frame in this way, or none
+abbrev pub in_way : Frame → Option Way → Option Slotted
+in_way f None = None
+in_way f (Some w) = Some (record { frame = f; way = w })
+
+abbrev pub slotted_of : ℕ → Nmt → Settings → Reading → List ℕ → Fixed → List ℕ → Option Slotted
+slotted_of node s settings r reply x l = in_way (slot_frame node s settings r reply x (first l)) (slot_way s (first l))
 
 -- nothing else waits with the boot-up frame
 abbrev pub booted_of : ℕ → Bool → Booted
@@ -65,6 +69,3 @@ booted_of identifier good =
 
 abbrev pub announced_of : ℕ → Bool → List ℕ → Announced
 announced_of inhibit good l = record { announced = good; inhibit = inhibit_ticks inhibit; line = taken_in l }
-
-abbrev pub taken_of : List ℕ → Taken
-taken_of l = record { line = taken_in l }

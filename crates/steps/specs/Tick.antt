@@ -1,6 +1,6 @@
--- What a tick changes in the parts of a head, as the code computes it, and which way it goes: 01, chapter "The waiting
+-- What a tick changes in the parts of a head, as the code computes it, and which kinds are then due: 01, chapter "The waiting
 -- line". Reviewers can skip this file: proofs/Ticks.antt proves that the head with these parts is what `promises` says.
-use Rattle.std.specs.Prelude.{ℕ, ◌-◌, eqb, Bool, true, false, not, ◌||◌, cond, [], ◌∷◌}
+use Rattle.std.specs.Prelude.{◌-◌, eqb, Bool, true, false, not, ◌||◌, cond, List, [], ◌∷◌, Option, None, Some}
 use Rattle.std.specs.Bool.{beq}
 use Rattle.entries.specs.declared.Communication.{Communication}
 use Rattle.entries.specs.declared.Pdo.{Pdo}
@@ -12,9 +12,10 @@ use Rattle.counting.specs.Periods.{one_more}
 use Rattle.tpdo.specs.Moments.{event_count}
 use Rattle.steps.specs.declared.tick.Ticked.{Ticked}
 
--- 1: some kind may join; 0: none
-abbrev pub tick_way : Bool → ℕ
-tick_way settles = cond settles 1 0
+-- a flag for each kind, and none if no kind can join
+abbrev pub due_by : Bool → Bool → Bool → Bool → Option (List Bool)
+due_by beats shows1 shows2 differs =
+    cond (((beats || shows1) || shows2) || differs) (Some (true ∷ false ∷ beats ∷ shows1 ∷ shows2 ∷ [])) None
 
 abbrev pub event_clock : Bool → Pdo → Clock → Clock
 event_clock counts p k = record { ticks = (event_count counts p k.ticks).count; syncs = k.syncs }
@@ -33,12 +34,11 @@ counted_on counts k t good announced =
             pdo1 = event_clock counts k.pdo1 t.pdo1;
             pdo2 = event_clock counts k.pdo2 t.pdo2;
           };
-      way = tick_way (((beats.ends || shows1) || shows2) || not (beq good announced));
-      due = true ∷ false ∷ beats.ends ∷ shows1 ∷ shows2 ∷ [];
+      due = due_by beats.ends shows1 shows2 (not (beq good announced));
     }
 
 abbrev pub ticked_of : Nmt → Communication → Timers → Bool → Bool → Ticked
 ticked_of s k t good announced =
     cond (eqb s.code initialising_code)
-    (record { timers = t; way = 0; due = false ∷ false ∷ false ∷ false ∷ false ∷ [] })
+    (record { timers = t; due = None })
     (counted_on (eqb s.code (code operational)) k t good announced)

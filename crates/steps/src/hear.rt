@@ -1,9 +1,9 @@
 //! Tells a received frame apart: refused, without effect, a SYNC, a command, or a request.
 ghost use Rattle.std.specs.Prelude.{◌≡◌};
 ghost use Rattle.position.specs.Profile.{ValidProfile};
-ghost use Rattle.steps.specs.Hear.{passing_by, sync_way, kept_by, order_way, ordered_by, write_way, replying_by, served_by, requested_by, heard_by};
+ghost use Rattle.steps.specs.Hear.{synced_by, ended_by, ordered_by, write_way, effect_way, served_by, requested_by, unrefused_by, heard_by};
 
-use can::{Bytes, Received};
+use can::{Bytes, Received, Refusal};
 use entries::Device;
 use entries::table::{ERROR_COUNT, LOAD, OPERATING, SAVE};
 use names::Transfer;
@@ -13,125 +13,126 @@ use sdo::reply::{Effect, Served};
 use server::Server;
 use waiting::Line;
 
-// The ways of a frame that the head obeys.
-pub const REPLIES: u8 = 1;
-
-pub const SYNCS: u8 = 2;
-
-pub const CONFIGURES: u8 = 3;
-
-pub const SCALES: u8 = 4;
-
-pub const ENTERS: u8 = 5;
-
-pub const RESETS: u8 = 6;
-
-pub const SAVES: u8 = 7;
-
-pub const EMPTIES: u8 = 8;
-
-pub const ENDS: u8 = 9;
-
 const COMMAND: u32 = 0x000;
 
 const SYNC: u32 = 0x080;
 
 const MOST_SYNC_LENGTH: u8 = 1;
 
-// What a frame means: the refusal number, the transfer that it leaves, the way, and what the way needs: the state to enter, whether all
-// settings are reset, the reply that waits, the name of what is written and its value.
+// What a frame that is meant for the head does, and the transfer that it leaves, if it may alter it.
 #[derive(Clone, Copy)]
 pub struct Heard {
-    pub refusal: u8,
-    pub transfer: Transfer,
-    pub way: u8,
-    pub state: Nmt,
-    pub all: bool,
+    pub transfer: Option<Transfer>,
+    pub way: Way,
+}
+
+// The ways of a frame that the head obeys, each with what it needs. `Ends` is the client's abort, which only ends a transfer.
+#[derive(Clone, Copy)]
+pub enum Way {
+    Replies(Bytes),
+    Syncs,
+    Configures(Written),
+    Scales(Written),
+    Enters(Nmt),
+    Resets { all: bool },
+    Saves { reply: Bytes, key: u32 },
+    Empties(Bytes),
+    Ends,
+}
+
+// A write that is accepted: its reply, the name of what is written, and the value.
+#[derive(Clone, Copy)]
+pub struct Written {
     pub reply: Bytes,
     pub key: u32,
     pub value: u32,
 }
 
-pub fn hear(state: Nmt, device: Device, transfer: Transfer, line: Line, frame: Received) -> Heard
+// A frame neither refused nor meant for the head has no effect: None.
+pub fn hear(
+    state: Nmt,
+    device: Device,
+    transfer: Transfer,
+    line: Line,
+    frame: Received,
+) -> Result<Option<Heard>, Refusal>
     requires { ValidProfile device.settings.profile }
     ensures { result ≡ heard_by state device transfer line frame }
 {
-    let refusal = can::refusal(frame);
-    if refusal != can::NO_REFUSAL {
-        return passing(refusal, crate::NONE, transfer);
-    }
+    can::checked(frame)?;
+    Ok(unrefused(state, device, transfer, line, frame))
+}
+
+fn unrefused(
+    state: Nmt,
+    device: Device,
+    transfer: Transfer,
+    line: Line,
+    frame: Received,
+) -> Option<Heard>
+    requires { ValidProfile device.settings.profile }
+    ensures { result ≡ unrefused_by state device transfer line frame }
+{
     if frame.extended | frame.remote | states::is_initialising(state) {
-        return passing(refusal, crate::NONE, transfer);
+        return None;
     }
     if frame.identifier == COMMAND {
-        return ordered(nmt::ordered(state, device.node, frame), transfer);
+        let order = nmt::ordered(state, device.node, frame)?;
+        return Some(ordered(order));
     }
     if frame.identifier == SYNC {
-        return passing(refusal, sync_way(state, frame.length), transfer);
+        return synced(state, frame.length);
     }
     if frame.identifier == Server::FIRST.request + device.node as u32 {
         return requested(state, device, transfer, line, frame);
     }
-    passing(refusal, crate::NONE, transfer)
+    None
 }
 
-fn passing(refusal: u8, way: u8, transfer: Transfer) -> Heard
-    ensures { result ≡ passing_by refusal way transfer }
-{
-    Heard {
-        refusal,
-        transfer,
-        way,
-        state: Nmt::INITIALISING,
-        all: false,
-        reply: [0, 0, 0, 0, 0, 0, 0, 0],
-        key: 0,
-        value: 0,
-    }
-}
-
-fn sync_way(state: Nmt, length: u8) -> u8
-    ensures { result ≡ sync_way state length }
+fn synced(state: Nmt, length: u8) -> Option<Heard>
+    ensures { result ≡ synced_by state length }
 {
     if (length <= MOST_SYNC_LENGTH) & states::is_operational(state) {
-        return SYNCS;
+        return Some(Heard {
+            transfer: None,
+            way: Way::Syncs,
+        });
     }
-    crate::NONE
+    None
 }
 
-fn ordered(order: Order, transfer: Transfer) -> Heard
-    ensures { result ≡ ordered_by order transfer }
+fn ordered(order: Order) -> Heard
+    ensures { result ≡ ordered_by order }
 {
-    let mut heard = passing(can::NO_REFUSAL, order_way(order), kept(order, transfer));
-    let state = order.state;
-    heard.state = state;
-    heard.all = order.all;
-    heard
+    match order {
+        Order::Enter(state) => Heard {
+            transfer: ended(state),
+            way: Way::Enters(state),
+        },
+        Order::Reset { all } => Heard {
+            transfer: Some(Transfer::NONE),
+            way: Way::Resets { all },
+        },
+    }
 }
 
-// A reset and entering Stopped end a transfer.
-fn kept(order: Order, transfer: Transfer) -> Transfer
-    ensures { result ≡ kept_by order transfer }
+// Entering Stopped ends a transfer, as a reset does.
+fn ended(state: Nmt) -> Option<Transfer>
+    ensures { result ≡ ended_by state }
 {
-    if order.resets | (order.enters & states::same(order.state, Nmt::STOPPED)) {
-        return Transfer::NONE;
+    if states::same(state, Nmt::STOPPED) {
+        return Some(Transfer::NONE);
     }
-    transfer
+    None
 }
 
-fn order_way(order: Order) -> u8
-    ensures { result ≡ order_way order }
-{
-    if order.enters {
-        return ENTERS;
-    }
-    if order.resets {
-        return RESETS;
-    }
-    crate::NONE
-}
-
-fn requested(state: Nmt, device: Device, transfer: Transfer, line: Line, frame: Received) -> Heard
+fn requested(
+    state: Nmt,
+    device: Device,
+    transfer: Transfer,
+    line: Line,
+    frame: Received,
+) -> Option<Heard>
     requires { ValidProfile device.settings.profile }
     ensures { result ≡ requested_by state device transfer line frame }
 {
@@ -141,45 +142,45 @@ fn requested(state: Nmt, device: Device, transfer: Transfer, line: Line, frame: 
         waiting::waits(line, Server::FIRST.kind),
     ) {
         let bytes = frame.bytes;
-        return served(serving::serve(device, states::is_operational(state), transfer, bytes));
+        let due = serving::serve(device, states::is_operational(state), transfer, bytes);
+        return Some(served(due));
     }
-    passing(can::NO_REFUSAL, crate::NONE, transfer)
+    None
 }
 
 fn served(served: Served) -> Heard
     ensures { result ≡ served_by served }
 {
-    let bytes = served.bytes;
-    let effect = served.effect;
     let transfer = served.transfer;
-    match effect {
-        Effect::Nothing => passing(can::NO_REFUSAL, ENDS, transfer),
-        Effect::Reply => replying(REPLIES, transfer, bytes, 0, 0),
-        Effect::Write { key, value } => replying(write_way(key), transfer, bytes, key, value),
+    Heard {
+        transfer: Some(transfer),
+        way: effect_way(served.bytes, served.effect),
     }
 }
 
-fn replying(way: u8, transfer: Transfer, reply: Bytes, key: u32, value: u32) -> Heard
-    ensures { result ≡ replying_by way transfer reply key value }
+fn effect_way(reply: Bytes, effect: Effect) -> Way
+    ensures { result ≡ effect_way reply effect }
 {
-    let mut heard = passing(can::NO_REFUSAL, way, transfer);
-    heard.reply = reply;
-    heard.key = key;
-    heard.value = value;
-    heard
+    match effect {
+        Effect::Nothing => Way::Ends,
+        Effect::Reply => Way::Replies(reply),
+        Effect::Write { key, value } => write_way(Written { reply, key, value }),
+    }
 }
 
-fn write_way(key: u32) -> u8
-    ensures { result ≡ write_way key }
+fn write_way(written: Written) -> Way
+    ensures { result ≡ write_way written }
 {
+    let key = written.key;
+    let reply = written.reply;
     if key == ERROR_COUNT {
-        return EMPTIES;
+        return Way::Empties(reply);
     }
     if (key == SAVE) | (key == LOAD) {
-        return SAVES;
+        return Way::Saves { reply, key };
     }
     if OPERATING <= key {
-        return SCALES;
+        return Way::Scales(written);
     }
-    CONFIGURES
+    Way::Configures(written)
 }

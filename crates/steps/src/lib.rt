@@ -1,6 +1,6 @@
 //! What a tick, a slot and a received frame change in the parts of a head: 01, "States" and "The waiting
 //! line". A step takes the parts that it needs and gives back those that it changes; the call then stores them
-//! in the head, once. Where a call can go several ways, its first step answers the way's number, 0 for none.
+//! in the head, once. Where a call can go several ways, its first step answers the way.
 
 #![tactic(auto)]
 
@@ -9,9 +9,6 @@ ghost use Rattle.steps.specs.Passes.{Laws};
 pub mod hear;
 pub mod slot;
 pub mod tick;
-
-// No way: nothing more changes.
-pub const NONE: u8 = 0;
 
 // This function does nothing. It ensures the statements of the crate, so the crate is proved only if they are.
 fn statements()

@@ -2,9 +2,8 @@
 ghost use Rattle.std.specs.Prelude.{◌≡◌, ◌≤◌};
 ghost use Rattle.position.specs.Profile.{ValidProfile};
 ghost use Rattle.waiting.specs.Line.{places};
-ghost use Rattle.waiting.specs.Places.{waiting as waitingIn, Holds};
-ghost use Rattle.promises.specs.Calls.{no_frame};
-ghost use Rattle.steps.specs.Slot.{slotted_of, slot_way, slot_frame, booted_of, announced_of, taken_of};
+ghost use Rattle.waiting.specs.Places.{waiting as waitingIn, taken_in, Holds};
+ghost use Rattle.steps.specs.Slot.{slotted_of, slot_way, slot_frame, booted_of, announced_of};
 
 use acceptance::is_on;
 use can::{Bytes, Frame};
@@ -12,14 +11,7 @@ use entries::{Reading, Settings};
 use parts::{Fixed, Nmt};
 use waiting::{EMERGENCY, EMPTY, HEARTBEAT, Line, SDO_REPLY, TPDO1, TPDO2};
 
-// The ways of a slot: it sends the boot-up frame, the emergency, or another kind.
-pub const BOOTS: u8 = 1;
-
-pub const ANNOUNCES: u8 = 2;
-
-pub const SENDS: u8 = 3;
-
-// The frame to send, if one waited. Otherwise it is all 0 and must not be sent.
+// The frame to send, if one waited. Otherwise it is all 0 and must not be sent. A flag and a value, not an Option, for C.
 #[repr(C)]
 #[derive(Clone, Copy)]
 pub struct Outgoing {
@@ -27,10 +19,31 @@ pub struct Outgoing {
     pub frame: Frame,
 }
 
+impl Outgoing {
+    pub const NONE: Outgoing = Outgoing {
+        waited: false,
+        frame: NO_FRAME,
+    };
+}
+
+const NO_FRAME: Frame = Frame {
+    identifier: 0,
+    length: 0,
+    bytes: [0, 0, 0, 0, 0, 0, 0, 0],
+};
+
+// The ways of a slot: it sends the boot-up frame, the emergency, or another kind.
+#[derive(Clone, Copy)]
+pub enum Way {
+    Boots,
+    Announces,
+    Sends,
+}
+
 #[derive(Clone, Copy)]
 pub struct Slotted {
-    pub outgoing: Outgoing,
-    pub way: u8,
+    pub frame: Frame,
+    pub way: Way,
 }
 
 pub fn slot(
@@ -41,34 +54,29 @@ pub fn slot(
     reply: Bytes,
     fixed: Fixed,
     line: Line,
-) -> Slotted
+) -> Option<Slotted>
     requires { ValidProfile settings.profile }
     ensures { result ≡ slotted_of node state settings reading reply fixed line }
 {
     let kind = waiting::first(line);
-    let way = way(state, kind);
-    Slotted {
-        outgoing: Outgoing {
-            waited: way != crate::NONE,
-            frame: frame(node, state, settings, reading, reply, fixed, kind),
-        },
+    let way = way_of(state, kind)?;
+    Some(Slotted {
+        frame: frame(node, state, settings, reading, reply, fixed, kind),
         way,
-    }
+    })
 }
 
-fn way(state: Nmt, kind: u8) -> u8
+fn way_of(state: Nmt, kind: u8) -> Option<Way>
     ensures { result ≡ slot_way state kind }
 {
     if states::is_initialising(state) {
-        return BOOTS;
+        return Some(Way::Boots);
     }
-    if kind == EMPTY {
-        return crate::NONE;
+    match kind {
+        EMPTY => None,
+        EMERGENCY => Some(Way::Announces),
+        _ => Some(Way::Sends),
     }
-    if kind == EMERGENCY {
-        return ANNOUNCES;
-    }
-    SENDS
 }
 
 fn frame(
@@ -95,17 +103,7 @@ fn frame(
         HEARTBEAT => heartbeat::frame(node, state),
         TPDO1 => tpdo::frame(pdo1, profile, reading.raw, fixed.pdo1),
         TPDO2 => tpdo::frame(pdo2, profile, reading.raw, fixed.pdo2),
-        _ => none(),
-    }
-}
-
-fn none() -> Frame
-    ensures { result ≡ no_frame }
-{
-    Frame {
-        identifier: 0,
-        length: 0,
-        bytes: [0, 0, 0, 0, 0, 0, 0, 0],
+        _ => NO_FRAME,
     }
 }
 
@@ -145,15 +143,9 @@ pub fn announce(inhibit: u32, good: bool, line: Line) -> Announced
     }
 }
 
-#[derive(Clone, Copy)]
-pub struct Taken {
-    pub line: Line,
-}
-
-pub fn take(line: Line) -> Taken
+pub fn take(line: Line) -> Line
     requires { Holds places line (waitingIn line) }
-    ensures { result ≡ taken_of line }
+    ensures { result ≡ taken_in line }
 {
-    let left = waiting::taken(line);
-    Taken { line: left }
+    waiting::taken(line)
 }

@@ -1,19 +1,16 @@
 //! A tick: what it counts, and which kinds are then due.
 ghost use Rattle.std.specs.Prelude.{◌≡◌};
-ghost use Rattle.steps.specs.Tick.{ticked_of, tick_way};
+ghost use Rattle.steps.specs.Tick.{ticked_of, due_by};
 
 use entries::Communication;
 use parts::{Clock, Nmt, Timers};
 use waiting::Flags;
 
-// The way of a tick at which some kind may join.
-pub const SETTLES: u8 = 1;
-
+// The timers, and which kinds are due; None if no kind can join.
 #[derive(Clone, Copy)]
 pub struct Ticked {
     pub timers: Timers,
-    pub way: u8,
-    pub due: Flags,
+    pub due: Option<Flags>,
 }
 
 // 1 ms has passed. In Initialising timers stand. At most ticks no kind is due and the reading is the one announced: the line stays.
@@ -27,11 +24,7 @@ pub fn tick(
     ensures { result ≡ ticked_of state settings timers good announced }
 {
     if states::is_initialising(state) {
-        return Ticked {
-            timers,
-            way: crate::NONE,
-            due: [false, false, false, false, false],
-        };
+        return Ticked { timers, due: None };
     }
     let operational = states::is_operational(state);
     let pdo1 = settings.pdo1;
@@ -52,13 +45,16 @@ pub fn tick(
                 syncs: timers.pdo2.syncs,
             },
         },
-        way: way(beat.ends | event1.ends | event2.ends | (good != announced)),
-        due: [true, false, beat.ends, event1.ends, event2.ends],
+        due: due(beat.ends, event1.ends, event2.ends, good != announced),
     }
 }
 
-fn way(settles: bool) -> u8
-    ensures { result ≡ tick_way settles }
+// An emergency may join at every tick, if the reading is not the one announced.
+fn due(beats: bool, shows1: bool, shows2: bool, differs: bool) -> Option<Flags>
+    ensures { result ≡ due_by beats shows1 shows2 differs }
 {
-    if settles { SETTLES } else { crate::NONE }
+    if beats | shows1 | shows2 | differs {
+        return Some([true, false, beats, shows1, shows2]);
+    }
+    None
 }

@@ -5,9 +5,8 @@ use Rattle.std.specs.Prelude.{ℕ, zero, suc, false, cond, None, Some, List, [],
 use Rattle.can.specs.declared.Received.{Received}
 use Rattle.parts.specs.declared.Head.{Head}
 use Rattle.parts.specs.declared.Answer.{Answer}
-use Rattle.parts.specs.declared.Sent.{Sent}
 use Rattle.parts.specs.declared.Sensor.TheVariants.{Missing as missing, Raw}
-use Rattle.promises.specs.Calls.{Call, receive, tick, sample, slot, step, answered, refusal_by, slot_answer, sent_with}
+use Rattle.promises.specs.Calls.{SlotAnswer, Call, receive, tick, sample, slot, step, answered, refusal_by, slot_answer, sent_with}
 use Rattle.text.specs.Printed.{frame_text, none_text, refusal_text}
 use Rattle.text.specs.Grammar.{Parsed}
 use Rattle.text.specs.declared.Command.TheVariants.{Frame, Ticks, Sample, Missing, Slot}
@@ -33,7 +32,7 @@ unfoldable pub told : Answer → Outcome
 told a = cond (eqb a.refusal 0) (silent a.head) (refused a.refusal a.head)
 
 -- A slot prints identifier (3 digits), length and bytes, capitals, or `-`
-abbrev pub shown : Sent → Outcome
+abbrev pub shown : SlotAnswer → Outcome
 shown s = outcome s.head (cond s.waited (frame_text s.frame) none_text)
 
 -- an 11-bit identifier; remote frames are out

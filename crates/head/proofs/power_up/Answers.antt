@@ -1,9 +1,7 @@
 -- `power_up` meets its promise, by its two parts.
-use mathlib.Core.Path.{ap₂}
-use Rattle.parts.specs.declared.Answer.{Answer}
+use mathlib.Core.Path.{ap₂, ◌∙◌}
+use Rattle.promises.specs.Calls.{answered}
 use Rattle.head.proofs.power_up.Goals as goal
 
 pub returns : goal.returns
-returns c =
-    let head = c.powered.ensures in
-    (ap₂ {C = Answer} (λ n h. record { refusal = n; head = h }) c.refusal.ensures.value head.0, head.1)
+returns c = (ap₂ answered (c.number_in.ensures ∙ c.checked.ensures.value) c.powered.ensures.0, c.powered.ensures.1)

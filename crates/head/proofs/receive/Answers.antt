@@ -1,16 +1,23 @@
--- `receive` meets its promise: the frame is told apart, and its way leaves the head that the promises say.
-use mathlib.Core.Path.{refl}
-use Rattle.steps.proofs.Received.{leaves, profile_valid, value_fits}
+-- `receive` meets its promise: obeyed, or refused.
+use mathlib.Core.Path.{subst}
+use Rattle.steps.proofs.Received.{Obeys, obeys_so, profile_valid}
 use Rattle.head.proofs.receive.Goals as goal
 
-pub hear-heard-requires : goal.hear-heard-requires
-hear-heard-requires c = profile_valid c.args.head c.requires c.args.frame
-
-pub obeyed-requires : goal.obeyed-requires
-obeyed-requires c =
+pub obey-requires : goal.obey-requires
+obey-requires c =
     let h = c.args.head in
     let f = c.args.frame in
-    rw c.hear-heard.ensures (record { valid = profile_valid h c.requires f; fits = λ _. value_fits h c.requires f })
+    let so = subst (Obeys h c.requires f) c.in-Ok.is (obeys_so h c.requires f c.hear-heard.ensures) in
+    record { valid = profile_valid h c.requires f; fits = so.1 }
 
-pub returns : goal.returns
-returns c = rw (c.obeyed.ensures, c.hear-heard.ensures) (leaves c.args.head c.requires c.args.frame refl)
+pub returns-in-Ok : goal.returns-in-Ok
+returns-in-Ok c =
+    let so = subst (Obeys c.args.head c.requires c.args.frame) c.in-Ok.is
+    (obeys_so c.args.head c.requires c.args.frame c.hear-heard.ensures) in
+    rw c.obey.ensures so.0
+
+pub returns-in-Err : goal.returns-in-Err
+returns-in-Err c =
+    rw c.number.ensures
+    (subst (Obeys c.args.head c.requires c.args.frame) c.in-Err.is
+    (obeys_so c.args.head c.requires c.args.frame c.hear-heard.ensures))

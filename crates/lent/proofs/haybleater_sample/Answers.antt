@@ -1,5 +1,14 @@
-use Rattle.samples.proofs.Samples.{samples_raw}
+-- Taken, or refused.
+use mathlib.Core.Path.{subst}
+use Rattle.samples.proofs.Samples.{Sampling, samples_so}
 use Rattle.lent.proofs.haybleater_sample.Goals as goal
 
-pub returns : goal.returns
-returns c = rw c.raw-left.ensures (samples_raw c.args.head.now c.requires c.args.raw)
+pub returns-in-Ok : goal.returns-in-Ok
+returns-in-Ok c =
+    let h = c.args.head.now in
+    subst (Sampling h c.requires c.args.raw) c.in-Ok.is (samples_so h c.requires c.args.raw c.raw-sampled.ensures)
+
+pub returns-in-Err : goal.returns-in-Err
+returns-in-Err c =
+    let h = c.args.head.now in
+    rw c.number.ensures (subst (Sampling h c.requires c.args.raw) c.in-Err.is (samples_so h c.requires c.args.raw c.raw-sampled.ensures))
