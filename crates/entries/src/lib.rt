@@ -95,7 +95,7 @@ pub fn name_of(identity: Identity, number: u8) -> Name
     }
 }
 
-// The present sample: its raw number is 0 while it is missing.
+// The present sample: its raw number is 0 while it is missing. A flag and a number, no Option: a head holds it, and what C lends may hold no enum.
 #[repr(C)]
 #[derive(Clone, Copy)]
 pub struct Reading {

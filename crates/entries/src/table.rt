@@ -27,7 +27,7 @@ pub enum Accepted {
     BelowRange,
 }
 
-// When an entry is blank: never, while the reading is missing, or with fewer errors in the list than this.
+// When an entry is blank: never, while the reading is missing, or with fewer errors in the list than this. Three cases, so no Option.
 #[derive(Clone, Copy)]
 pub enum WhenBlank {
     Never,

@@ -11,7 +11,7 @@ use can::Bytes;
 
 const LONGEST: u8 = 32;
 
-// A string of 1 to 32 bytes: the first `length` of `bytes`.
+// A string of 1 to 32 bytes: the first `length` of `bytes`. An array and a length, as C has it.
 #[repr(C)]
 #[derive(Clone, Copy)]
 pub struct Name {
@@ -20,6 +20,7 @@ pub struct Name {
 }
 
 // The upload of a name: its number is 1 for 1008h, 2 for 1009h, 3 for 100Ah, and 0 if none runs; and the segments answered so far.
+// A number and no Option of an enum: a head holds it, and what C lends may hold no enum.
 #[repr(C)]
 #[derive(Clone, Copy)]
 pub struct Transfer {

@@ -8,7 +8,7 @@ ghost use Rattle.position.specs.Profile.{full_range, ValidProfile};
 ghost use Rattle.position.specs.Laws.{Laws};
 ghost use Rattle.position.specs.Worked.{Worked};
 
-/// The profile part of the settings: 6000h, 6002h, 6003h, 6005-1 and 6509h.
+/// The profile part of the settings: 6000h, 6002h, 6003h, 6005-1 and 6509h. `ValidProfile` is no invariant of it, as `Valid` is none of a head.
 #[repr(C)]
 #[derive(Clone, Copy)]
 pub struct Profile {

@@ -33,6 +33,7 @@ pub fn no_reply() -> Served
     }
 }
 
+// Any code: an `Abort` would ask more of a caller.
 pub fn abort(request: Bytes, code: u32) -> Served
     ensures { result ≡ aborted request code }
 {

@@ -8,7 +8,8 @@ ghost use Rattle.sdo.specs.Request.{is_abort, is_segment, toggle_in, index_of, d
 use can::Bytes;
 use sdo::request::{Access, Ask};
 
-// Byte 0: the command in the top three bits; in a write bit 1 says expedited, bit 0 that bits 3..2 tell the length.
+// Byte 0: the command in the top three bits, by its number in CiA 301 (`Access` is the enum); in a write bit 1 says expedited, bit 0 that
+// bits 3..2 tell the length.
 const READ: u8 = 2;
 
 const WRITE: u8 = 1;

@@ -3,7 +3,7 @@ use can::Bytes;
 use names::Transfer;
 
 // What a request does: nothing (the client's abort, which only ends a transfer), its reply waits, or its reply waits and what
-// has the name `key` gets a value: for a setting the key of its own entry.
+// has the name `key` gets a value: for a setting the key of its own entry. Three cases, so no Option.
 #[derive(Clone, Copy)]
 pub enum Effect {
     Nothing,

@@ -1,5 +1,6 @@
 //! What a request asks, when it is taken apart.
 
+// A read is a case of its own, and no lack of a write.
 // `length` is 0 if the request leaves it to the entry, as `Taken.write_unsaid` says: so it is no Option.
 #[derive(Clone, Copy)]
 pub enum Access {

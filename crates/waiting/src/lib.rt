@@ -11,7 +11,8 @@ ghost use Rattle.waiting.specs.Laws.{Lines, Laws, InTurn};
 ghost use Rattle.waiting.specs.Plain.{BySlotN, Example};
 ghost use Rattle.waiting.specs.Worked.{Worked};
 
-// The kinds. Several that join in one call join in the order of these numbers.
+// The kinds. Several that join in one call join in the order of these numbers. They are no enum, since 01 wants an array of kind numbers, and
+// what C lends may hold no enum.
 pub const EMERGENCY: u8 = 1;
 
 pub const SDO_REPLY: u8 = 2;
