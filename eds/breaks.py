@@ -184,24 +184,24 @@ HEAD = [
 
 # Text of the proved list, what stands there instead, words of the refusal
 LIST = [
-    ("0x6509_00 => Row(k, S32, RO", "0x6509_00 => Row(k, U32, RO", "6509-0: S32 ro in the data sheet, U32 ro in the proved list"),
-    ("0x1005_00 => Row(k, U32, RO", "0x1005_00 => Row(k, U32, RW", "1005-0: U32 ro in the data sheet, U32 rw"),
-    ("0x1017_00 => Row(k, U16", "0x1017_00 => Row(k, U32", "1017-0: U16 rw in the data sheet, U32 rw"),
+    ("0x6509_00 => Some(line(k, S32, RO", "0x6509_00 => Some(line(k, U32, RO", "6509-0: S32 ro in the data sheet, U32 ro in the proved list"),
+    ("0x1005_00 => Some(line(k, U32, RO", "0x1005_00 => Some(line(k, U32, RW", "1005-0: U32 ro in the data sheet, U32 rw"),
+    ("0x1017_00 => Some(line(k, U16", "0x1017_00 => Some(line(k, U32", "1017-0: U16 rw in the data sheet, U32 rw"),
     ("0x6504_00 =>", "0x6505_00 =>", "6505-0: nothing in the data sheet"),
-    ("        0x6504_00 => Row(k, U16, RO, Nothing, Never, Fixed(1)),\n", "", "6504-0: U16 ro in the data sheet, nothing"),
+    ("        0x6504_00 => Some(line(k, U16, RO, Nothing, Never, Fixed(1))),\n", "", "6504-0: U16 ro in the data sheet, nothing"),
     ("0x6504_00 =>", "0x6503_00 =>", "not in index order: 6503-0 after 6503-0"),
-    ("0x6504_00 => Row(k, U16", "0x6504_00 => Row(k, U64", "not a line of the list"),
+    ("0x6504_00 => Some(line(k, U16", "0x6504_00 => Some(line(k, U64", "not a line of the list"),
     ("0x6504_00 =>", "0x6502_00 =>", "not in index order: 6502-0 after 6503-0"),
     ("        0x1801_05 =>", "        0x1801_03 | 0x1801_05 =>", "not a line of the list"),
-    ("0x1801_05 => Row(k, U16, RW, All, Never, Setting(TPDO2_EVENT)", "0x1801_05 => Row(k, U16, RW, All, Never, Setting(TPDO3_EVENT)",
+    ("0x1801_05 => Some(line(k, U16, RW, All, Never, Setting(TPDO2_EVENT)", "0x1801_05 => Some(line(k, U16, RW, All, Never, Setting(TPDO3_EVENT)",
      "neither a number nor a constant: TPDO3_EVENT"),
-    ("0x1008_00 => Row(k, NAME", "0x1008_00 => Row(k, U32", "1008-0: name ro in the data sheet, U32 ro in the proved list"),
-    ("0x1009_00 => Row(k, NAME, RO", "0x1009_00 => Row(k, NAME, RW", "1009-0: name ro in the data sheet, name rw"),
+    ("0x1008_00 => Some(line(k, NAME", "0x1008_00 => Some(line(k, U32", "1008-0: name ro in the data sheet, U32 ro in the proved list"),
+    ("0x1009_00 => Some(line(k, NAME, RO", "0x1009_00 => Some(line(k, NAME, RW", "1009-0: name ro in the data sheet, name rw"),
     ("0x100A_00 =>", "0x100B_00 =>", "100B-0: nothing in the data sheet"),
     ("Between(1_000, 1_000_000)", "Between(999, 1_000_000)", "6002-0: limits 1000 and 1000000 in the data sheet, 999 and 1000000 in the proved list"),
     ("Between(5_000, 1_000_000)", "Between(5_000, 1_000_001)", "6005-1: limits 5000 and 1000000 in the data sheet, 5000 and 1000001"),
     ("Fixed(0x0008_0196)", "Fixed(0x0002_0196)", "1000-0: 524694 in the data sheet, 131478 in the proved list"),
-    ("0x6504_00 => Row(k, U16, RO, Nothing, Never, Fixed(1)", "0x6504_00 => Row(k, U16, RO, Nothing, Never, Fixed(2)",
+    ("0x6504_00 => Some(line(k, U16, RO, Nothing, Never, Fixed(1)", "0x6504_00 => Some(line(k, U16, RO, Nothing, Never, Fixed(2)",
      "6504-0: 1 in the data sheet, 2 in the proved list"),
 ]
 

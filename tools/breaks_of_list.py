@@ -1,21 +1,21 @@
 """Breaks that tools/entries --check has to find: which text, what stands there, what stands there instead, words of the line that tells."""
 
-AT_1015 = "        0x1015_00 => Row(k, U16, RW, All, Never, Setting(INHIBIT)),\n"
-AT_1017 = "        0x1017_00 => Row(k, U16, RW, All, Never, Setting(HEARTBEAT)),\n"
-AT_1801 = "        0x1801_05 => Row(k, U16, RW, All, Never, Setting(TPDO2_EVENT)),\n"
-AT_6200 = "0x6200_00 => Row(k, U16, RW, All, Never, Setting(TPDO1_EVENT)"
-AT_1800 = "0x1800_00 => Row(k, U8, RO, Nothing, Never, Fixed(5)"
-AT_6504 = "0x6504_00 => Row(k, U16, RO, Nothing, Never, Fixed(1)"
+AT_1015 = "        0x1015_00 => Some(line(k, U16, RW, All, Never, Setting(INHIBIT))),\n"
+AT_1017 = "        0x1017_00 => Some(line(k, U16, RW, All, Never, Setting(HEARTBEAT))),\n"
+AT_1801 = "        0x1801_05 => Some(line(k, U16, RW, All, Never, Setting(TPDO2_EVENT))),\n"
+AT_6200 = "0x6200_00 => Some(line(k, U16, RW, All, Never, Setting(TPDO1_EVENT)"
+AT_1800 = "0x1800_00 => Some(line(k, U8, RO, Nothing, Never, Fixed(5)"
+AT_6504 = "0x6504_00 => Some(line(k, U16, RO, Nothing, Never, Fixed(1)"
 SIGNATURES = """\
-        0x1010_01 => Row(k, U32, RW, Signature(0x6576_6173), Never, Fixed(1)),
-        0x1011_00 => Row(k, U8, RO, Nothing, Never, Fixed(1)),
-        0x1011_01 => Row(k, U32, RW, Signature(0x6461_6F6C), Never, Fixed(1)),
+        0x1010_01 => Some(line(k, U32, RW, Signature(0x6576_6173), Never, Fixed(1))),
+        0x1011_00 => Some(line(k, U8, RO, Nothing, Never, Fixed(1))),
+        0x1011_01 => Some(line(k, U32, RW, Signature(0x6461_6F6C), Never, Fixed(1))),
 """
 IDENTITY = """\
-        0x1018_01 => Row(k, U32, RO, Nothing, Never, Vendor),
-        0x1018_02 => Row(k, U32, RO, Nothing, Never, Product),
-        0x1018_03 => Row(k, U32, RO, Nothing, Never, Revision),
-        0x1018_04 => Row(k, U32, RO, Nothing, Never, Serial),
+        0x1018_01 => Some(line(k, U32, RO, Nothing, Never, Vendor)),
+        0x1018_02 => Some(line(k, U32, RO, Nothing, Never, Product)),
+        0x1018_03 => Some(line(k, U32, RO, Nothing, Never, Revision)),
+        0x1018_04 => Some(line(k, U32, RO, Nothing, Never, Serial)),
 """
 PDOS = """\
                     identifier: 0x180 + n,
@@ -41,16 +41,16 @@ BREAKS = [
     ("code", AT_1801, "", "-| 1801-5 | U16 rw | 0; all |"),
     ("code", AT_1801, "", "the code has 1A00-0 where the specification has 1801-5"),
     ("code", AT_1801, AT_1801.replace("_05", "_06"), "1801-6: no row has the key of its setting, 1801-5"),
-    ("code", "fn from_1000(k: u32) -> Row", "fn earlier(k: u32) -> Row", "the code has 1800-0 where the specification has 1000-0"),
+    ("code", "fn from_1000(k: u32) -> Option<Row>", "fn earlier(k: u32) -> Option<Row>", "the code has 1800-0 where the specification has 1000-0"),
     ("code", "        0x6004_00 =>", "        // 0x6004_00 =>", "not a line of the list"),
     ("code", "        0x6004_00 =>", "        0x6004_00 | 0x6006_00 =>", "not a line of the list"),
     # each column
-    ("code", "0x6509_00 => Row(k, S32,", "0x6509_00 => Row(k, U32,", "6509-0: type is U32 in the code, S32 in the specification"),
-    ("code", "0x1009_00 => Row(k, NAME,", "0x1009_00 => Row(k, U32,", "+| 1009-0 | U32 ro"),
-    ("code", "0x1009_00 => Row(k, NAME,", "0x1009_00 => Row(k, U64,", "not a line of the list"),
-    ("code", "0x1005_00 => Row(k, U32, RO, Nothing", "0x1005_00 => Row(k, U32, RW, All", "1005-0: access is rw in the code"),
-    ("code", "0x1005_00 => Row(k, U32, RO,", "0x1005_00 => Row(k, U32, RW,", "1005-0: rw, and it accepts Nothing"),
-    ("code", "0x1015_00 => Row(k, U16, RW,", "0x1015_00 => Row(k, U16, RO,", "1015-0: ro, and it accepts All"),
+    ("code", "0x6509_00 => Some(line(k, S32,", "0x6509_00 => Some(line(k, U32,", "6509-0: type is U32 in the code, S32 in the specification"),
+    ("code", "0x1009_00 => Some(line(k, NAME,", "0x1009_00 => Some(line(k, U32,", "+| 1009-0 | U32 ro"),
+    ("code", "0x1009_00 => Some(line(k, NAME,", "0x1009_00 => Some(line(k, U64,", "not a line of the list"),
+    ("code", "0x1005_00 => Some(line(k, U32, RO, Nothing", "0x1005_00 => Some(line(k, U32, RW, All", "1005-0: access is rw in the code"),
+    ("code", "0x1005_00 => Some(line(k, U32, RO,", "0x1005_00 => Some(line(k, U32, RW,", "1005-0: rw, and it accepts Nothing"),
+    ("code", "0x1015_00 => Some(line(k, U16, RW,", "0x1015_00 => Some(line(k, U16, RO,", "1015-0: ro, and it accepts All"),
     ("code", "Between(1_000, 1_000_000)", "Between(999, 1_000_000)", "6002-0: accepted is Between 999 1000000 in the code"),
     ("code", "Between(5_000, 1_000_000)", "Between(5_000, 100_000)", "+| 6005-1 | U32 rw | 5,000; 5,000..100,000 |"),
     ("code", "Signature(0x6576_6173)", "Signature(0x6576_6174)", '+| 1010-1 | U32 rw | read 1; "tave"'),
@@ -81,8 +81,8 @@ BREAKS = [
 # Tried where 01 is there: it tells
 SCOPE_BREAKS = [
     ("code", AT_1801, "", "1801-5 of 01 is missing"),
-    ("code", "0x6509_00 => Row(k, S32,", "0x6509_00 => Row(k, U32,", "6509-0: 'U32 ro', and 'S32 ro' in 01"),
-    ("code", "0x1005_00 => Row(k, U32, RO, Nothing", "0x1005_00 => Row(k, U32, RW, All", "1005-0: 'U32 rw', and 'U32 ro' in 01"),
+    ("code", "0x6509_00 => Some(line(k, S32,", "0x6509_00 => Some(line(k, U32,", "6509-0: 'U32 ro', and 'S32 ro' in 01"),
+    ("code", "0x1005_00 => Some(line(k, U32, RO, Nothing", "0x1005_00 => Some(line(k, U32, RW, All", "1005-0: 'U32 rw', and 'U32 ro' in 01"),
     # numbers that stand elsewhere in 01's table, or below it
     ("code", "Fixed(0x0008_0196)", "Fixed(0x0002_0196)", "1000-0: '0002 0196h', and '0008 0196h' in 01"),
     ("code", "Fixed(0x80)", "Fixed(31)", "1005-0: '31', and '80h' in 01"),

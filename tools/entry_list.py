@@ -9,8 +9,8 @@ CODE, SPECIFICATION = ENTRIES / "src" / "table.rt", ENTRIES / "specs" / "Table.a
 
 # A column is a word, and the numbers or the name of a constant behind it.
 COLUMN = r"[A-Z][A-Za-z]*(?:\([0-9A-Za-z_, ]+\))?"
-CODE_ROW = re.compile(rf" +0x([0-9A-F]{{4}}_[0-9A-F]{{2}}) => Row\(k, (U8|U16|U32|S32|NAME), (RO|RW), ({COLUMN}), ({COLUMN}), ({COLUMN})\),")
-PART = re.compile(r"fn from_[0-9A-F]{4}\(k: u32\) -> Row")
+CODE_ROW = re.compile(rf" +0x([0-9A-F]{{4}}_[0-9A-F]{{2}}) => Some\(line\(k, (U8|U16|U32|S32|NAME), (RO|RW), ({COLUMN}), ({COLUMN}), ({COLUMN})\)\),")
+PART = re.compile(r"fn from_[0-9A-F]{4}\(k: u32\) -> Option<Row>")
 CONSTANT = re.compile(r"(?:pub )?const ([A-Z0-9_]+): u32 = (0x[0-9A-F]{4}_[0-9A-F]{2});")
 SPEC_COLUMN = r"[A-Z][A-Za-z]*|\([A-Z][A-Za-z]*(?: [0-9A-Fx_]+)+\)"
 SPEC_ROW = re.compile(rf" +row 0x([0-9A-F]{{4}}) ([0-9]+) (U8|U16|U32|S32|name) (ro|rw) ({SPEC_COLUMN}) ({SPEC_COLUMN}) ({SPEC_COLUMN}) ∷")
@@ -70,7 +70,7 @@ def code_lines(text):
     """The lines of the functions from_1000 and so on: between `match k {` and the line for any other key."""
     part = inside = False
     for line in text.splitlines():
-        if inside and line.strip() == "_ => NO_ROW,":
+        if inside and line.strip() == "_ => None,":
             part = inside = False
         elif inside:
             yield line
