@@ -90,6 +90,7 @@ fn command_for(width: u8) -> u8
     }
 }
 
+// Byte by byte, as CiA 301 draws the frame.
 fn framed(first: u8, request: Bytes, content: u32) -> Bytes
     ensures { result ≡ framedBy first request content }
 {

@@ -81,6 +81,7 @@ fn said_length(command: u8) -> u8
     }
 }
 
+// Bytes 4 to 7, as CiA 301 draws the frame.
 fn data_of(bytes: Bytes) -> u32
     ensures { result ≡ data_of bytes }
 {

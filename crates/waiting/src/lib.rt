@@ -105,6 +105,7 @@ pub fn taken(line: Line) -> Line
     [line[1], line[2], line[3], line[4], EMPTY]
 }
 
+// This function and the next three differ in what they call, not in a type: a closure for it would need a contract that chains its calls.
 pub fn join_if(line: Line, due: bool, kind: u8) -> Line
     ensures { result ≡ joins_in line (if_due due kind) }
 {
