@@ -5,7 +5,7 @@
 ghost use Rattle.std.specs.Prelude.{◌≡◌, cond};
 ghost use Rattle.counting.specs.Periods.{one_more};
 
-// The count, and whether the period ended with it.
+// The count, and whether the period ended with it. Both always mean something, so this is no Option.
 #[derive(Clone, Copy)]
 pub struct Count {
     pub count: u32,

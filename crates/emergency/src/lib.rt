@@ -6,10 +6,11 @@ ghost use Rattle.std.specs.Prelude.{◌≡◌, ◌+◌, ◌-◌, ◌≤◌};
 ghost use Rattle.cases.specs.Padded.{pad};
 ghost use Rattle.promises.specs.WaitingLine.{may_alert, emergency_bytes, frame as frameWith};
 ghost use Rattle.promises.specs.Timers.{inhibit_ticks};
+ghost use Rattle.emergency.specs.Telling.{telling_of};
 
 use acceptance::is_on;
 use can::{Bytes, Frame};
-use parts::Nmt;
+use parts::{Core, Nmt};
 
 const IDENTIFIER: u32 = 0x080;
 
@@ -18,16 +19,36 @@ const LENGTH: u8 = 8;
 // 1015h counts units of 100 µs, a tick is 1 ms.
 const UNITS_A_TICK: u32 = 10;
 
-pub fn may_wait(
-    state: Nmt,
-    identifier: u32,
-    inhibit_ticks: u32,
-    good: bool,
-    announced: bool,
-) -> bool
-    ensures { result ≡ may_alert state identifier inhibit_ticks good announced }
+// What decides, beside the settings, whether the emergency may wait: the state, the ticks left of the inhibit time, whether the
+// reading is good, and whether the one last announced was. A function that takes the timers too has the inhibit time from them.
+#[derive(Clone, Copy)]
+pub struct Telling {
+    pub state: Nmt,
+    pub inhibit_ticks: u32,
+    pub good: bool,
+    pub announced: bool,
+}
+
+impl Telling {
+    pub fn of(core: &Core) -> Telling
+        ensures { result ≡ telling_of core.now }
+    {
+        Telling {
+            state: core.nmt,
+            inhibit_ticks: core.timers.inhibit,
+            good: core.device.reading.good,
+            announced: core.announced,
+        }
+    }
+}
+
+pub fn may_wait(telling: Telling, identifier: u32) -> bool
+    ensures { result ≡ may_alert telling.state identifier telling.inhibit_ticks telling.good telling.announced }
 {
-    states::is_live(state) & is_on(identifier) & (inhibit_ticks == 0) & (good != announced)
+    states::is_live(telling.state)
+        & is_on(identifier)
+        & (telling.inhibit_ticks == 0)
+        & (telling.good != telling.announced)
 }
 
 pub fn frame(node: u8, good: bool) -> Frame

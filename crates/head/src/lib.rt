@@ -13,6 +13,7 @@ ghost use Rattle.promises.specs.Valid.{Valid};
 ghost use Rattle.promises.specs.Promised.{PowersUp, Receives, Ticks, Samples, Slots};
 
 use can::{Received, Refusal};
+use emergency::Telling;
 use entries::{Device, Identity, Reading, Settings};
 use names::Transfer;
 use parts::{Answer, Core, Fixed, Head, Nmt, Sensor, Sent, Setup};
@@ -140,24 +141,12 @@ pub fn tick(head: Head) -> Head
     requires { Valid head }
     ensures { Ticks head result }
 {
-    let state = head.core.nmt;
     let settings = head.core.device.settings.communication;
-    let good = head.core.device.reading.good;
-    let announced = head.core.announced;
-    let ticked = steps::tick::tick(state, settings, head.core.timers, good, announced);
-    let timers = ticked.timers;
+    let ticked = steps::tick::tick(Telling::of(&head.core), settings, head.core.timers);
     let mut left = head;
-    left.core.timers = timers;
+    left.core.timers = ticked.timers;
     if let Some(due) = ticked.due {
-        left.line = settling::joined(
-            left.line,
-            state,
-            settings,
-            timers.inhibit,
-            good,
-            announced,
-            due,
-        );
+        left.line = settling::joined(left.line, Telling::of(&left.core), settings, due);
     }
     left
 }
@@ -180,16 +169,11 @@ pub fn sample_missing(head: Head) -> Head
     requires { Valid head }
     ensures { Samples head Missing (answered 0 result) }
 {
-    let state = head.core.nmt;
-    let settings = head.core.device.settings.communication;
     let waiting = head.line;
     let left = samples::missing(
-        state,
-        settings,
-        head.core.timers.inhibit,
-        head.core.device.reading.good,
+        Telling::of(&head.core),
+        head.core.device.settings.communication,
         head.core.device.errors,
-        head.core.announced,
         waiting,
     );
     let reading = left.reading;
@@ -212,11 +196,8 @@ pub fn sample_raw(head: Head, raw: u32) -> Answer
     ensures { Samples head (Raw raw) result }
 {
     let sampled = samples::raw(
-        head.core.nmt,
+        Telling::of(&head.core),
         head.core.device.settings.communication.emergency,
-        head.core.timers.inhibit,
-        head.core.device.reading,
-        head.core.announced,
         head.line,
         raw,
     );

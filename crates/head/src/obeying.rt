@@ -6,10 +6,12 @@ ghost use Rattle.steps.specs.Obey.{replied_in, synced_in, configured_in, scaled_
 ghost use Rattle.head.specs.Writable.{Writable};
 
 use can::Bytes;
+use emergency::Telling;
 use nmt::entry;
 use parts::{Head, Nmt};
 use server::effect;
-use steps::hear::{Heard, Way, Written};
+use server::effect::Write;
+use steps::hear::{Heard, Way};
 use tpdo::sync;
 
 // The head obeys the frame, if it is meant for the head.
@@ -34,8 +36,8 @@ fn go(head: &mut Head, way: Way)
     match way {
         Way::Replies(reply) => replied(head, reply),
         Way::Syncs => synced(head),
-        Way::Configures(written) => configured(head, written),
-        Way::Scales(written) => scaled(head, written),
+        Way::Configures(write) => configured(head, write),
+        Way::Scales(write) => scaled(head, write),
         Way::Enters(state) => entered(head, state),
         Way::Resets { all } => restarted(head, all),
         Way::Saves { reply, key } => saved(head, reply, key),
@@ -72,19 +74,15 @@ fn synced(head: &mut Head)
     head.line = line;
 }
 
-fn configured(head: &mut Head, written: Written)
-    ensures { head.new ≡ configured_in head.old written }
+fn configured(head: &mut Head, write: Write)
+    ensures { head.new ≡ configured_in head.old write }
 {
     let left = effect::configure(
-        head.core.nmt,
+        Telling::of(&head.core),
         head.core.device.settings.communication,
         head.core.timers,
-        head.core.device.reading.good,
-        head.core.announced,
         head.line,
-        written.reply,
-        written.key,
-        written.value,
+        write,
     );
     head.core.device.settings.communication = left.communication;
     head.core.timers = left.timers;
@@ -94,17 +92,15 @@ fn configured(head: &mut Head, written: Written)
     head.line = line;
 }
 
-fn scaled(head: &mut Head, written: Written)
-    requires { (ValidProfile head.old.core.device.settings.profile) × (Fits head.old.core.device.settings.profile written.key written.value) }
-    ensures { head.new ≡ scaled_in head.old written }
+fn scaled(head: &mut Head, write: Write)
+    requires { (ValidProfile head.old.core.device.settings.profile) × (Fits head.old.core.device.settings.profile write.key write.value) }
+    ensures { head.new ≡ scaled_in head.old write }
 {
     let left = effect::scale(
         head.core.device.settings.profile,
         head.core.device.reading.raw,
         head.line,
-        written.reply,
-        written.key,
-        written.value,
+        write,
     );
     head.core.device.settings.profile = left.part;
     let reply = left.reply;
@@ -117,11 +113,9 @@ fn entered(head: &mut Head, state: Nmt)
     ensures { head.new ≡ entered_in head.old state }
 {
     let left = entry::enter(
-        head.core.nmt,
+        Telling::of(&head.core),
         head.core.device.settings.communication,
         head.core.timers,
-        head.core.device.reading.good,
-        head.core.announced,
         head.line,
         state,
     );

@@ -13,6 +13,7 @@ ghost use Rattle.lent.specs.Questions.{state_code, is_good, position_of, any_wai
 ghost use Rattle.lent.specs.Steps.{sent_as};
 
 use can::Received;
+use emergency::Telling;
 use head::{obeying, sending};
 use parts::{Head, Setup};
 use steps::slot::Outgoing;
@@ -62,21 +63,16 @@ pub fn haybleater_tick(head: &mut Head)
     ensures { Ticks head.old head.new }
 {
     let ticked = tick::tick(
-        head.core.nmt,
+        Telling::of(&head.core),
         head.core.device.settings.communication,
         head.core.timers,
-        head.core.device.reading.good,
-        head.core.announced,
     );
     head.core.timers = ticked.timers;
     if let Some(due) = ticked.due {
         let left = settling::joined(
             head.line,
-            head.core.nmt,
+            Telling::of(&head.core),
             head.core.device.settings.communication,
-            head.core.timers.inhibit,
-            head.core.device.reading.good,
-            head.core.announced,
             due,
         );
         head.line = left;
@@ -88,11 +84,8 @@ pub fn haybleater_sample(head: &mut Head, raw: u32) -> u8
     ensures { Samples head.old (Raw raw) (answered result head.new) }
 {
     let sampled = samples::raw(
-        head.core.nmt,
+        Telling::of(&head.core),
         head.core.device.settings.communication.emergency,
-        head.core.timers.inhibit,
-        head.core.device.reading,
-        head.core.announced,
         head.line,
         raw,
     );
@@ -112,12 +105,9 @@ pub fn haybleater_missing(head: &mut Head)
     ensures { Samples head.old Missing (answered 0 head.new) }
 {
     let left = samples::missing(
-        head.core.nmt,
+        Telling::of(&head.core),
         head.core.device.settings.communication,
-        head.core.timers.inhibit,
-        head.core.device.reading.good,
         head.core.device.errors,
-        head.core.announced,
         head.line,
     );
     head.core.device.reading = left.reading;

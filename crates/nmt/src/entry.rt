@@ -5,6 +5,7 @@ ghost use Rattle.promises.specs.WaitingLine.{flags_of};
 ghost use Rattle.promises.specs.Acts.{entry_moments};
 ghost use Rattle.nmt.specs.Entry.{staying_by, entered_by, restored_by, restarted_by};
 
+use emergency::Telling;
 use entries::{Communication, Settings};
 use parts::{Nmt, Timers};
 use waiting::{Flags, HEARTBEAT, Line, TPDO1, TPDO2};
@@ -16,18 +17,21 @@ pub struct Entered {
     pub line: Line,
 }
 
-// The PDOs are counted from entry.
+// The PDOs are counted from entry. Those that then join may do so in the state entered.
 pub fn enter(
-    present: Nmt,
+    telling: Telling,
     settings: Communication,
     timers: Timers,
-    good: bool,
-    announced: bool,
     line: Line,
     state: Nmt,
 ) -> Entered
-    ensures { result ≡ entered_by present settings timers good announced line state }
+    ensures { result ≡ entered_by telling.state settings timers telling.good telling.announced line state }
 {
+    let entered = Telling {
+        state,
+        inhibit_ticks: timers.inhibit,
+        ..telling
+    };
     Entered {
         nmt: state,
         timers: Timers {
@@ -37,12 +41,9 @@ pub fn enter(
             pdo2: tpdo::uncounted(),
         },
         line: settling::joined(
-            staying(line, present, state),
-            state,
+            staying(line, telling.state, state),
+            entered,
             settings,
-            timers.inhibit,
-            good,
-            announced,
             entry_due(settings, state),
         ),
     }

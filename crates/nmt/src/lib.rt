@@ -59,7 +59,7 @@ fn obeyed(state: Nmt, command: u8) -> Option<Order>
 fn enter(present: Nmt, state: Nmt) -> Option<Order>
     ensures { result ≡ entering present state }
 {
-    if states::same(present, state) {
+    if present == state {
         return None;
     }
     Some(Order::Enter(state))

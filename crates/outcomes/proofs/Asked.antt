@@ -133,6 +133,7 @@ asked =
 pub lent_asked : LentAsked
 lent_asked =
     record {
+      emergency·Telling·of = λ κs a. tt;
       head·obeying·obey = λ κs a w. w;
       head·sending·send = λ κs a r. let v = valid_reachable a.0.now r in (v.device.settings.communication.inhibit, v.line);
       lent·haybleater_power_up = λ κs a. tt;

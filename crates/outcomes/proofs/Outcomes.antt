@@ -177,6 +177,7 @@ outcomes =
 pub lent_outcomes : LentOutcomes
 lent_outcomes =
     record {
+      emergency·Telling·of = λ κs a x y p q. same x y refl p q;
       head·obeying·obey = λ κs a x y p q. left_alike x y refl refl p q;
       head·sending·send = λ κs a x y p q. left_alike x y refl refl p q;
       lent·haybleater_power_up = λ κs a x y p q. answered_alike x y refl p.0 q.0;

@@ -129,7 +129,7 @@ pub record Asked : Type 0 where
   pub server·effect·reply : AsksNothingOf server.effect.reply.ended (λ M 𝓤. server.effect.reply.clauses) (λ M 𝓤 𝓛 m f κs a. (tt, λ g. refl))
   pub server·effect·empty : AsksNothingOf server.effect.empty.ended (λ M 𝓤. server.effect.empty.clauses) (λ M 𝓤 𝓛 m f κs a. (tt, λ g. refl))
   pub server·effect·save : AsksNothingOf server.effect.save.ended (λ M 𝓤. server.effect.save.clauses) (λ M 𝓤 𝓛 m f κs a. (tt, λ g. refl))
-  pub server·effect·scale : AsksOnlyOf server.effect.scale.ended (λ κs a. (ValidProfile a.0) × (Fits a.0 a.1.1.1.1.0 a.1.1.1.1.1.0)) (λ M 𝓤. server.effect.scale.clauses) (λ M 𝓤 𝓛 m f κs a. (tt, λ g. refl))
+  pub server·effect·scale : AsksOnlyOf server.effect.scale.ended (λ κs a. (ValidProfile a.0) × (Fits a.0 a.1.1.1.0.key a.1.1.1.0.value)) (λ M 𝓤. server.effect.scale.clauses) (λ M 𝓤 𝓛 m f κs a. (tt, λ g. refl))
   pub server·effect·configure : AsksNothingOf server.effect.configure.ended (λ M 𝓤. server.effect.configure.clauses) (λ M 𝓤 𝓛 m f κs a. (tt, λ g. refl))
   pub samples·raw : AsksNothingOf samples.raw.ended (λ M 𝓤. samples.raw.clauses) (λ M 𝓤 𝓛 m f κs a. (tt, λ g. refl))
   pub samples·missing : AsksNothingOf samples.missing.ended (λ M 𝓤. samples.missing.clauses) (λ M 𝓤 𝓛 m f κs a. (tt, λ g. refl))
@@ -169,8 +169,9 @@ pub record Asked : Type 0 where
   pub feeding·chunk : AsksOnlyOfBoth feeding.chunk.ended (λ κs a. (Reachable a.0.head) × (longest * length a.1.0.now ≤ length a.1.1.0.now)) (λ M 𝓤. feeding.chunk.clauses) (λ M 𝓤 𝓛 m f κs a. (tt, λ g. refl))
   pub feeding·close : AsksOnlyOf feeding.close.ended (λ κs a. Reachable a.0.head) (λ M 𝓤. feeding.close.clauses) (λ M 𝓤 𝓛 m f κs a. (tt, λ g. refl))
 
--- The calls of `lent`, with what each requires.
+-- The calls that are lent a head or a part of it, with what each requires.
 pub record LentAsked : Type 0 where
+  pub emergency·Telling·of : AsksNothingOf emergency.Telling.of.ended (λ M 𝓤. emergency.Telling.of.clauses) (λ M 𝓤 𝓛 m f κs a. (tt, λ g. refl))
   pub head·obeying·obey : AsksOnlyOf head.obeying.obey.ended (λ κs a. Writable a.0.now a.1.0) {Asked = λ κs a. Writable a.0.now a.1.0} (λ M 𝓤. head.obeying.obey.clauses) (λ M 𝓤 𝓛 m f κs a. (tt, λ g. refl))
   pub head·sending·send : AsksOnlyOf head.sending.send.ended (λ κs a. Reachable a.0.now) {Asked = λ κs a. (a.0.now.core.device.settings.communication.inhibit ≤ 0xFFFF) × (Holds places a.0.now.line (waitingIn a.0.now.line))} (λ M 𝓤. head.sending.send.clauses) (λ M 𝓤 𝓛 m f κs a. (tt, λ g. refl))
   pub lent·haybleater_power_up : AsksNothingOf lent.haybleater_power_up.ended (λ M 𝓤. lent.haybleater_power_up.clauses) (λ M 𝓤 𝓛 m f κs a. (tt, λ g. refl))

@@ -5,6 +5,7 @@ use mathlib.Core.Path.{refl}
 use Rattle.parts.specs.declared.Sensor.TheVariants.{Missing, Raw}
 use Rattle.promises.specs.Calls.{answered}
 use Rattle.promises.specs.Promised.{PowersUp, Receives, Ticks, Samples, Slots}
+use Rattle.emergency.specs.Telling.{telling_of}
 use Rattle.steps.specs.Obey.{obeyed_in}
 use Rattle.steps.specs.Sent.{sent_in}
 use Rattle.lent.specs.Questions.{state_code, is_good, position_of, any_waits, goes_if_missing}
@@ -166,8 +167,9 @@ pub record Outcomes : Type 0 where
   pub feeding·chunk : OneOutcomeOf feeding.chunk.ended (λ M 𝓤. feeding.chunk.clauses) (λ M 𝓤 𝓛 m f κs a g r e. refl)
   pub feeding·close : OneOutcomeOf feeding.close.ended (λ M 𝓤. feeding.close.clauses) (λ M 𝓤 𝓛 m f κs a g r e. refl)
 
--- The calls of `lent`, with what each ensures.
+-- The calls that are lent a head or a part of it, with what each ensures.
 pub record LentOutcomes : Type 0 where
+  pub emergency·Telling·of : OneOutcomeOf emergency.Telling.of.ended {This = λ κs a r e. r ≡ telling_of a.0.now} (λ M 𝓤. emergency.Telling.of.clauses) (λ M 𝓤 𝓛 m f κs a g r e. refl)
   pub head·obeying·obey : OneOutcomeOf head.obeying.obey.ended {This = λ κs a r e. e.0.now ≡ obeyed_in a.0.now a.1.0} (λ M 𝓤. head.obeying.obey.clauses) (λ M 𝓤 𝓛 m f κs a g r e. refl)
   pub head·sending·send : OneOutcomeOf head.sending.send.ended {This = λ κs a r e. e.0.now ≡ sent_in a.0.now a.1.0} (λ M 𝓤. head.sending.send.clauses) (λ M 𝓤 𝓛 m f κs a g r e. refl)
   pub lent·haybleater_power_up : OneOutcomeOf lent.haybleater_power_up.ended {This = λ κs a r e. PowersUp a.1.0.node a.1.0.identity (answered r e.0.now)} (λ M 𝓤. lent.haybleater_power_up.clauses) (λ M 𝓤 𝓛 m f κs a g r e. refl)

@@ -111,7 +111,7 @@ module _ (h : Head) (v : Valid h) where
     Sampling (Ok z) = Samples h (Raw raw) (answered 0 (with_line (with_reading h z.reading) z.line))
 
     samples_raw :
-        Sampling (sampled_of c.nmt (communication c).emergency inhibit c.device.reading c.announced h.line raw)
+        Sampling (sampled_of c.nmt (communication c).emergency inhibit (good c) c.announced h.line raw)
     samples_raw =
         by Sampling (bad_sample (Raw raw))
         (λ b.
@@ -124,7 +124,7 @@ module _ (h : Head) (v : Valid h) where
         (ap₂ answered number p, subst Valid (sym p) (valid_step h (sample (Raw raw)) v)))
 
     pub samples_so : {z : Result Sampled Refusal}
-        → z ≡ sampled_of c.nmt (communication c).emergency inhibit c.device.reading c.announced h.line raw → Sampling z
+        → z ≡ sampled_of c.nmt (communication c).emergency inhibit (good c) c.announced h.line raw → Sampling z
     samples_so e = subst Sampling (sym e) samples_raw
 
   -- those that go when a good reading goes missing

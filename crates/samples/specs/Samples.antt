@@ -4,7 +4,6 @@ use Rattle.std.specs.Prelude.{ℕ, suc, eqb, ltb, Bool, true, false, not, ◌&&�
 use Rattle.can.specs.declared.Refusal.{Refusal}
 use Rattle.can.specs.declared.Refusal.TheVariants.{BadSample}
 use Rattle.entries.specs.declared.Communication.{Communication}
-use Rattle.entries.specs.declared.Reading.{Reading}
 use Rattle.waiting.specs.Line.{emergency, tpdo1, tpdo2, first}
 use Rattle.waiting.specs.Calls.{joins_in, withdraws_in, if_due}
 use Rattle.parts.specs.declared.Nmt.{Nmt}
@@ -26,11 +25,11 @@ found_line s identifier inhibit good announced l =
     let alerts = if_due (free s identifier inhibit) emergency in
     cond good l (cond announced (withdraws_in l alerts) (joins_in l alerts))
 
-abbrev pub sampled_of : Nmt → ℕ → ℕ → Reading → Bool → List ℕ → ℕ → Result Sampled Refusal
-sampled_of s identifier inhibit r announced l raw =
+abbrev pub sampled_of : Nmt → ℕ → ℕ → Bool → Bool → List ℕ → ℕ → Result Sampled Refusal
+sampled_of s identifier inhibit good announced l raw =
     cond (bad_sample (Raw raw))
     (Err BadSample)
-    (Ok (record { reading = record { good = true; raw = raw }; line = found_line s identifier inhibit r.good announced l }))
+    (Ok (record { reading = record { good = true; raw = raw }; line = found_line s identifier inhibit good announced l }))
 
 -- the line once the position frames of types 254 and 255 and an emergency that told "good" have gone
 abbrev pub left_line : Nmt → Communication → ℕ → Bool → List ℕ → List ℕ

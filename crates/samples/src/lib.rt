@@ -5,11 +5,11 @@
 ghost use Rattle.std.specs.Prelude.{◌≡◌};
 ghost use Rattle.parts.specs.declared.Sensor.TheVariants.{Raw};
 ghost use Rattle.promises.specs.Calls.{bad_sample};
-ghost use Rattle.samples.specs.Samples.{sampled_of, found_line, missed_of, lost_line, one_more_error};
+ghost use Rattle.samples.specs.Samples.{free, sampled_of, found_line, missed_of, lost_line, one_more_error};
 
 use can::Refusal;
+use emergency::Telling;
 use entries::{Communication, Reading};
-use parts::Nmt;
 use waiting::{EMERGENCY, EMPTY, Line, TPDO1, TPDO2};
 
 pub const HIGHEST_RAW: u32 = 1_048_575;
@@ -23,52 +23,42 @@ pub struct Sampled {
 }
 
 // A raw position; one above 1,048,575 is refused, and changes nothing.
-pub fn raw(
-    state: Nmt,
-    emergency: u32,
-    inhibit_ticks: u32,
-    reading: Reading,
-    announced: bool,
-    line: Line,
-    raw: u32,
-) -> Result<Sampled, Refusal>
-    ensures { result ≡ sampled_of state emergency inhibit_ticks reading announced line raw }
+pub fn raw(telling: Telling, emergency: u32, line: Line, raw: u32) -> Result<Sampled, Refusal>
+    ensures { result ≡ sampled_of telling.state emergency telling.inhibit_ticks telling.good telling.announced line raw }
 {
     if is_refused(raw) {
         return Err(Refusal::BadSample);
     }
     Ok(Sampled {
         reading: Reading { good: true, raw },
-        line: found(
-            state,
-            emergency,
-            inhibit_ticks,
-            reading.good,
-            announced,
-            line,
-        ),
+        line: found(telling, emergency, line),
     })
 }
 
 // The line once the reading is good. If it was good before, the line stays.
-fn found(
-    state: Nmt,
-    emergency: u32,
-    inhibit_ticks: u32,
-    good: bool,
-    announced: bool,
-    line: Line,
-) -> Line
-    ensures { result ≡ found_line state emergency inhibit_ticks good announced line }
+fn found(telling: Telling, emergency: u32, line: Line) -> Line
+    ensures { result ≡ found_line telling.state emergency telling.inhibit_ticks telling.good telling.announced line }
 {
-    if good {
+    if telling.good {
         return line;
     }
-    let alerts = emergency::may_wait(state, emergency, inhibit_ticks, false, true);
-    if announced {
+    let alerts = is_free(telling, emergency);
+    if telling.announced {
         return waiting::withdraw_if(line, alerts, EMERGENCY);
     }
     waiting::join_if(line, alerts, EMERGENCY)
+}
+
+// Whether an emergency may wait, if the reading differs from the one announced.
+fn is_free(telling: Telling, emergency: u32) -> bool
+    ensures { result ≡ free telling.state emergency telling.inhibit_ticks }
+{
+    let differs = Telling {
+        good: false,
+        announced: true,
+        ..telling
+    };
+    emergency::may_wait(differs, emergency)
 }
 
 #[derive(Clone, Copy)]
@@ -78,22 +68,14 @@ pub struct Missed {
     pub line: Line,
 }
 
-pub fn missing(
-    state: Nmt,
-    settings: Communication,
-    inhibit_ticks: u32,
-    good: bool,
-    errors: u32,
-    announced: bool,
-    line: Line,
-) -> Missed
-    ensures { result ≡ missed_of state settings inhibit_ticks good errors announced line }
+pub fn missing(telling: Telling, settings: Communication, errors: u32, line: Line) -> Missed
+    ensures { result ≡ missed_of telling.state settings telling.inhibit_ticks telling.good errors telling.announced line }
 {
     let reading = Reading {
         good: false,
         raw: 0,
     };
-    if !good {
+    if !telling.good {
         return Missed {
             reading,
             errors,
@@ -103,23 +85,18 @@ pub fn missing(
     Missed {
         reading,
         errors: errors_after(errors),
-        line: lost(state, settings, inhibit_ticks, announced, line),
+        line: lost(telling, settings, line),
     }
 }
 
 // The line once a good reading went missing. A frame of types 1 to 240 stays: its position was fixed at a SYNC.
-fn lost(
-    state: Nmt,
-    settings: Communication,
-    inhibit_ticks: u32,
-    announced: bool,
-    line: Line,
-) -> Line
-    ensures { result ≡ lost_line state settings inhibit_ticks announced line }
+fn lost(telling: Telling, settings: Communication, line: Line) -> Line
+    ensures { result ≡ lost_line telling.state settings telling.inhibit_ticks telling.announced line }
 {
+    let announced = telling.announced;
     let pdo1 = settings.pdo1;
     let pdo2 = settings.pdo2;
-    let alerts = emergency::may_wait(state, settings.emergency, inhibit_ticks, false, true);
+    let alerts = is_free(telling, settings.emergency);
     if waiting::first(line) == EMPTY {
         return waiting::join_if(line, alerts & announced, EMERGENCY);
     }

@@ -6,13 +6,14 @@ ghost use Rattle.promises.specs.Timers.{timers_written};
 ghost use Rattle.server.specs.Effects.{replied_by, written_by, emptied_by, kept_by, saved_by, scaled_by, rewritten_by, configured_by};
 
 use can::Bytes;
+use emergency::Telling;
 use entries::table::{HEARTBEAT, SAVE, TPDO1_EVENT, TPDO2_EVENT};
 use entries::{Communication, Settings};
-use parts::{Nmt, Timers};
+use parts::Timers;
 use position::Profile;
 use waiting::{EMPTY, Line, SDO_REPLY};
 
-// The reply waits, and nothing else changes: an emergency that may wait waits already.
+// The reply waits, and nothing else changes: an emergency that may wait waits already. No part is altered, so this is no `Written`.
 #[derive(Clone, Copy)]
 pub struct Replied {
     pub reply: Bytes,
@@ -26,6 +27,14 @@ pub fn reply(line: Line, reply: Bytes) -> Replied
         reply,
         line: waiting::join(line, SDO_REPLY),
     }
+}
+
+// A write that is accepted: its reply, the name of what is written, and the value.
+#[derive(Clone, Copy)]
+pub struct Write {
+    pub reply: Bytes,
+    pub key: u32,
+    pub value: u32,
 }
 
 // A part of the head as a write leaves it; its reply waits.
@@ -53,7 +62,7 @@ pub fn empty(line: Line, reply: Bytes) -> Written<u32>
     replying(0, line, reply)
 }
 
-// The saved set.
+// The saved set. The value of the write, a signature, does not matter any more.
 pub fn save(node: u8, settings: Settings, line: Line, reply: Bytes, key: u32) -> Written<Settings>
     ensures { result ≡ saved_by node settings line reply key }
 {
@@ -70,18 +79,12 @@ fn kept(node: u8, settings: Settings, key: u32) -> Settings
     Settings::factory(node)
 }
 
-pub fn scale(
-    profile: Profile,
-    raw: u32,
-    line: Line,
-    reply: Bytes,
-    key: u32,
-    value: u32,
-) -> Written<Profile>
-    requires { (ValidProfile profile) × (Fits profile key value) }
-    ensures { result ≡ scaled_by profile raw line reply key value }
+pub fn scale(profile: Profile, raw: u32, line: Line, write: Write) -> Written<Profile>
+    requires { (ValidProfile profile) × (Fits profile write.key write.value) }
+    ensures { result ≡ scaled_by profile raw line write.reply write.key write.value }
 {
-    replying(writes::profile_after(profile, raw, key, value), line, reply)
+    let after = writes::profile_after(profile, raw, write.key, write.value);
+    replying(after, line, write.reply)
 }
 
 // A write of a communication setting leaves two parts, and takes kinds from the line too.
@@ -94,24 +97,25 @@ pub struct Configured {
 }
 
 pub fn configure(
-    state: Nmt,
+    telling: Telling,
     before: Communication,
     timers: Timers,
-    good: bool,
-    announced: bool,
     line: Line,
-    reply: Bytes,
-    key: u32,
-    value: u32,
+    write: Write,
 ) -> Configured
-    ensures { result ≡ configured_by state before timers good announced line reply key value }
+    ensures { result ≡ configured_by telling.state before timers telling.good telling.announced line write.reply write.key write.value }
 {
-    let after = writes::communication_after(before, key, value);
+    let after = writes::communication_after(before, write.key, write.value);
+    let reply = write.reply;
+    let telling = Telling {
+        inhibit_ticks: timers.inhibit,
+        ..telling
+    };
     Configured {
         communication: after,
-        timers: timers_written(key, before, after, timers),
+        timers: timers_written(write.key, before, after, timers),
         reply,
-        line: rewritten(line, state, after, timers.inhibit, good, announced),
+        line: rewritten(line, telling, after),
     }
 }
 
@@ -133,30 +137,23 @@ fn timers_written(key: u32, before: Communication, after: Communication, timers:
 }
 
 // The line under the new settings: kinds that may no longer wait go, the emergency may join, the reply joins.
-fn rewritten(
-    line: Line,
-    state: Nmt,
-    settings: Communication,
-    inhibit_ticks: u32,
-    good: bool,
-    announced: bool,
-) -> Line
-    ensures { result ≡ rewritten_by line state settings inhibit_ticks good announced }
+fn rewritten(line: Line, telling: Telling, settings: Communication) -> Line
+    ensures { result ≡ rewritten_by line telling.state settings telling.inhibit_ticks telling.good telling.announced }
 {
     let pdo1 = settings.pdo1;
     let pdo2 = settings.pdo2;
-    if (waiting::first(line) == EMPTY) & (good == announced) {
+    if (waiting::first(line) == EMPTY) & (telling.good == telling.announced) {
         return waiting::join(line, SDO_REPLY);
     }
-    let alerts = emergency::may_wait(state, settings.emergency, inhibit_ticks, good, announced);
+    let alerts = emergency::may_wait(telling, settings.emergency);
     let left = waiting::withdraw_those(
         line,
         [
             !alerts,
             false,
-            !heartbeat::may_wait(state, settings.heartbeat),
-            !tpdo::may_stay(state, pdo1, good),
-            !tpdo::may_stay(state, pdo2, good),
+            !heartbeat::may_wait(telling.state, settings.heartbeat),
+            !tpdo::may_stay(telling.state, pdo1, telling.good),
+            !tpdo::may_stay(telling.state, pdo2, telling.good),
         ],
     );
     waiting::join_those(left, [alerts, true, false, false, false])

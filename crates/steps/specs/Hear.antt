@@ -21,8 +21,8 @@ use Rattle.promises.specs.States.{operational, stopped, code, live, initialising
 use Rattle.nmt.specs.declared.Order.{Order}
 use Rattle.nmt.specs.declared.Order.TheVariants.{Enter, Reset}
 use Rattle.nmt.specs.Orders.{order_of}
+use Rattle.server.specs.declared.effect.Write.{Write as AcceptedWrite}
 use Rattle.steps.specs.declared.hear.Heard.{Heard}
-use Rattle.steps.specs.declared.hear.Written.{Written}
 use Rattle.steps.specs.declared.hear.Way.{Way}
 use Rattle.steps.specs.declared.hear.Way.TheVariants.{Replies, Syncs, Configures, Scales, Enters, Resets, Saves, Empties, Ends}
 
@@ -46,7 +46,7 @@ commanded_by None = None
 commanded_by (Some o) = Some (ordered_by o)
 
 -- by the name of what is written
-abbrev pub write_way : Written → Way
+abbrev pub write_way : AcceptedWrite → Way
 write_way w =
     cond (eqb w.key error_count_key) (Empties w.reply)
     (cond (eqb w.key save_key || eqb w.key load_key) (Saves w.reply w.key)

@@ -11,9 +11,9 @@ use Rattle.parts.specs.Put.{with_profile, with_communication, with_fixed}
 use Rattle.promises.specs.States.{communication, good}
 use Rattle.tpdo.specs.Sync.{synced_by}
 use Rattle.nmt.specs.Entry.{entered_by, restarted_by}
+use Rattle.server.specs.declared.effect.Write.{Write}
 use Rattle.server.specs.Effects.{replied_by, emptied_by, saved_by, scaled_by, configured_by}
 use Rattle.steps.specs.declared.hear.Heard.{Heard}
-use Rattle.steps.specs.declared.hear.Written.{Written}
 use Rattle.steps.specs.declared.hear.Way.{Way}
 use Rattle.steps.specs.declared.hear.Way.TheVariants.{Replies, Syncs, Configures, Scales, Enters, Resets, Saves, Empties, Ends}
 
@@ -26,13 +26,13 @@ synced_in h =
     let r = synced_by c.nmt c.device.settings c.timers c.device.reading c.fixed h.line in
     with_line (with_fixed (with_timers h r.timers) r.fixed) r.line
 
-abbrev pub configured_in : Head → Written → Head
+abbrev pub configured_in : Head → Write → Head
 configured_in h w =
     let c = h.core in
     let r = configured_by c.nmt (communication c) c.timers (good c) c.announced h.line w.reply w.key w.value in
     with_line (with_reply (with_timers (with_communication h r.communication) r.timers) r.reply) r.line
 
-abbrev pub scaled_in : Head → Written → Head
+abbrev pub scaled_in : Head → Write → Head
 scaled_in h w =
     let d = h.core.device in
     let r = scaled_by d.settings.profile d.reading.raw h.line w.reply w.key w.value in

@@ -11,6 +11,7 @@ use nmt::Order;
 use parts::Nmt;
 use sdo::reply::{Effect, Served};
 use server::Server;
+use server::effect::Write;
 use waiting::Line;
 
 const COMMAND: u32 = 0x000;
@@ -31,21 +32,13 @@ pub struct Heard {
 pub enum Way {
     Replies(Bytes),
     Syncs,
-    Configures(Written),
-    Scales(Written),
+    Configures(Write),
+    Scales(Write),
     Enters(Nmt),
     Resets { all: bool },
     Saves { reply: Bytes, key: u32 },
     Empties(Bytes),
     Ends,
-}
-
-// A write that is accepted: its reply, the name of what is written, and the value.
-#[derive(Clone, Copy)]
-pub struct Written {
-    pub reply: Bytes,
-    pub key: u32,
-    pub value: u32,
 }
 
 // A frame neither refused nor meant for the head has no effect: None.
@@ -120,7 +113,7 @@ fn ordered(order: Order) -> Heard
 fn ended(state: Nmt) -> Option<Transfer>
     ensures { result ≡ ended_by state }
 {
-    if states::same(state, Nmt::STOPPED) {
+    if state == Nmt::STOPPED {
         return Some(Transfer::NONE);
     }
     None
@@ -164,15 +157,15 @@ fn effect_way(reply: Bytes, effect: Effect) -> Way
     match effect {
         Effect::Nothing => Way::Ends,
         Effect::Reply => Way::Replies(reply),
-        Effect::Write { key, value } => write_way(Written { reply, key, value }),
+        Effect::Write { key, value } => write_way(Write { reply, key, value }),
     }
 }
 
-fn write_way(written: Written) -> Way
-    ensures { result ≡ write_way written }
+fn write_way(write: Write) -> Way
+    ensures { result ≡ write_way write }
 {
-    let key = written.key;
-    let reply = written.reply;
+    let key = write.key;
+    let reply = write.reply;
     if key == ERROR_COUNT {
         return Way::Empties(reply);
     }
@@ -180,7 +173,7 @@ fn write_way(written: Written) -> Way
         return Way::Saves { reply, key };
     }
     if OPERATING <= key {
-        return Way::Scales(written);
+        return Way::Scales(write);
     }
-    Way::Configures(written)
+    Way::Configures(write)
 }

@@ -2,8 +2,9 @@
 ghost use Rattle.std.specs.Prelude.{◌≡◌};
 ghost use Rattle.steps.specs.Tick.{ticked_of, due_by};
 
+use emergency::Telling;
 use entries::Communication;
-use parts::{Clock, Nmt, Timers};
+use parts::{Clock, Timers};
 use waiting::Flags;
 
 // The timers, and which kinds are due; None if no kind can join.
@@ -14,19 +15,14 @@ pub struct Ticked {
 }
 
 // 1 ms has passed. In Initialising timers stand. At most ticks no kind is due and the reading is the one announced: the line stays.
-pub fn tick(
-    state: Nmt,
-    settings: Communication,
-    timers: Timers,
-    good: bool,
-    announced: bool,
-) -> Ticked
-    ensures { result ≡ ticked_of state settings timers good announced }
+pub fn tick(telling: Telling, settings: Communication, timers: Timers) -> Ticked
+    ensures { result ≡ ticked_of telling.state settings timers telling.good telling.announced }
 {
-    if states::is_initialising(state) {
+    if states::is_initialising(telling.state) {
         return Ticked { timers, due: None };
     }
-    let operational = states::is_operational(state);
+    let operational = states::is_operational(telling.state);
+    let differs = telling.good != telling.announced;
     let pdo1 = settings.pdo1;
     let pdo2 = settings.pdo2;
     let beat = heartbeat::ticked(settings.heartbeat, timers.heartbeat);
@@ -45,7 +41,7 @@ pub fn tick(
                 syncs: timers.pdo2.syncs,
             },
         },
-        due: due(beat.ends, event1.ends, event2.ends, good != announced),
+        due: due(beat.ends, event1.ends, event2.ends, differs),
     }
 }
 

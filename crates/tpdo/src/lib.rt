@@ -91,6 +91,7 @@ pub fn written(event: bool, before: Pdo, after: Pdo, clock: Clock) -> Clock
     }
 }
 
+// The position, low byte first, and then zeros: byte by byte, as CiA 301 draws the frame.
 pub fn frame(pdo: Pdo, profile: Profile, raw: u32, fixed: u32) -> Frame
     requires { ValidProfile profile }
     ensures { result ≡ frameWith pdo.identifier 4 (low_first 4 (carriedBy pdo (position profile raw) fixed)) }

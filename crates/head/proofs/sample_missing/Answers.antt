@@ -3,4 +3,4 @@ use Rattle.samples.proofs.Samples.{samples_missing}
 use Rattle.head.proofs.sample_missing.Goals as goal
 
 pub returns : goal.returns
-returns c = rw c.missing-left.ensures (samples_missing c.args.head c.requires)
+returns c = rw (c.missing-left.ensures, c.of.ensures) (samples_missing c.args.head c.requires)

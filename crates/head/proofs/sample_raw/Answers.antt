@@ -6,9 +6,9 @@ use Rattle.head.proofs.sample_raw.Goals as goal
 pub returns-in-Ok : goal.returns-in-Ok
 returns-in-Ok c =
     let h = c.args.head in
-    subst (Sampling h c.requires c.args.raw) c.in-Ok.is (samples_so h c.requires c.args.raw c.raw-sampled.ensures)
+    subst (Sampling h c.requires c.args.raw) c.in-Ok.is (samples_so h c.requires c.args.raw (rw c.of.ensures at c.raw-sampled.ensures))
 
 pub returns-in-Err : goal.returns-in-Err
 returns-in-Err c =
     let h = c.args.head in
-    rw c.number.ensures (subst (Sampling h c.requires c.args.raw) c.in-Err.is (samples_so h c.requires c.args.raw c.raw-sampled.ensures))
+    rw c.number.ensures (subst (Sampling h c.requires c.args.raw) c.in-Err.is (samples_so h c.requires c.args.raw (rw c.of.ensures at c.raw-sampled.ensures)))
