@@ -14,7 +14,7 @@ use parts::{Answer, Head, Sensor, Sent};
 use text::Command;
 use transcript::Reply;
 
-// A line not of its form.
+// A line not of its form: refused by the session alone, so none of `can::Refusal`.
 const NOT_OF_ITS_FORM: u8 = 9;
 
 // Above every sample that the head takes, and the highest number that its call can be given.

@@ -84,7 +84,7 @@ pub struct Identity {
     pub software: Name,
 }
 
-// The name of this number: 1 for 1008h, 2 for 1009h, 3 for 100Ah.
+// The name of this number, which `Transfer` holds: 1 for 1008h, 2 for 1009h, 3 for 100Ah.
 pub fn name_of(identity: Identity, number: u8) -> Name
     ensures { result ≡ name_of identity number }
 {

@@ -153,7 +153,7 @@ fn row_of(key: u32) -> Option<Row>
 }
 
 // The list, one line for each entry, in index order: key, type, access, accepted values, when it is blank,
-// where its number comes from. Here 1000h to 1018h.
+// where its number comes from. Here 1000h to 1018h. A match and no array, which would be laid out on the stack at each look.
 #[tactic(auto, unfolding(crate::specs::Table::table, crate::specs::Table::row_of_key))]
 fn from_1000(k: u32) -> Option<Row>
     requires { k < 0x1800_00 }

@@ -64,8 +64,8 @@ pub struct Core {
 }
 
 // A head is made by `power_up` and altered by the calls only: the promises are for such heads, and each call leaves one.
-// `Valid` stands in the contracts and is no invariant of the type: `haybleater_power_up` takes memory that may hold anything, and
-// `haybleater_state` asks nothing of its head.
+// `Valid`, and what follows from it of a part, stands in the contracts and is no invariant of a type: `haybleater_power_up` takes memory
+// that may hold anything, and `haybleater_state` asks nothing of its head.
 #[repr(C)]
 #[derive(Clone, Copy)]
 pub struct Head {

@@ -1,4 +1,5 @@
 //! What is printed: a frame, `-`, or a refusal, each as a line with its end, 0Ah. 01, "Worked numbers", "Session program".
+//! No Display: the theorems are about the bytes of a line, and a line stands in an array, without a heap.
 
 #![tactic(auto)]
 
@@ -74,6 +75,7 @@ pub fn none() -> Line
 }
 
 #[tactic(auto, unfolding(text::specs::Printed::refusal_text))]
+// Any number: 9, a line not of its form, is none of `can::Refusal`.
 pub fn refusal(number: u8) -> Line
     ensures { result ≡ line_of (refusal_text number) }
 {

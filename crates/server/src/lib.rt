@@ -15,7 +15,7 @@ const REQUEST_LENGTH: u8 = 8;
 
 const REPLY_LENGTH: u8 = 8;
 
-// The identifiers of requests and replies, to which the node number is added; the kind of its reply.
+// The identifiers of requests and replies, to which the node number is added; the kind of its reply, a kind's number of the line.
 #[derive(Clone, Copy)]
 pub struct Server {
     pub request: u32,

@@ -32,6 +32,7 @@ pub fn serve(device: Device, operational: bool, transfer: Transfer, bytes: Bytes
     first(device, operational, bytes)
 }
 
+// Device, state and bytes go from here down as they came: a struct of them would be made once and taken apart at once.
 // Every other request ends the transfer; a read of a name starts one. A client's abort gets no reply.
 fn first(device: Device, operational: bool, bytes: Bytes) -> Served
     requires { ValidProfile device.settings.profile }

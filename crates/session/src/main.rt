@@ -83,6 +83,7 @@ fn in_words(text: &str) -> &str {
 fn main(rt: HostRuntime) {
     let mut out = [0u8; ROOM];
     let mut session = feeding::start();
+    // A proved loop ends, so this one has a last turn.
     for _ in 0..u64::MAX {
         let Some(next) = turn(&rt, session, &mut out) else {
             break;

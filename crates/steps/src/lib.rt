@@ -1,6 +1,7 @@
 //! What a tick, a slot and a received frame change in the parts of a head: 01, "States" and "The waiting
 //! line". A step takes the parts that it needs and gives back those that it changes; the call then stores them
-//! in the head, once. Where a call can go several ways, its first step answers the way.
+//! in the head, once. Where a call can go several ways, its first step answers the way. The parts stand by themselves among the parameters, not
+//! in a struct: 01 wants calls that hand the parts to a step by value.
 
 #![tactic(auto)]
 

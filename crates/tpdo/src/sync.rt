@@ -9,6 +9,7 @@ use parts::{Clock, Fixed, Nmt, Timers};
 use position::Profile;
 use waiting::{Line, TPDO1, TPDO2};
 
+// `nmt::entry::Entered` has a state where this has the fixed positions: one type for both would name neither.
 #[derive(Clone, Copy)]
 pub struct Synced {
     pub timers: Timers,
