@@ -62,7 +62,6 @@ asked =
       states·is_initialising = λ κs a. tt;
       states·is_operational = λ κs a. tt;
       states·is_live = λ κs a. tt;
-      states·same = λ κs a. tt;
       counting·counted = λ κs a. tt;
       counting·restarted = λ κs a. tt;
       emergency·may_wait = λ κs a. tt;

@@ -106,7 +106,6 @@ outcomes =
       states·is_initialising = λ κs a x y. same x y refl;
       states·is_operational = λ κs a x y. same x y refl;
       states·is_live = λ κs a x y. same x y refl;
-      states·same = λ κs a x y. same x y refl;
       counting·counted = λ κs a x y. same x y refl;
       counting·restarted = λ κs a x y. same x y refl;
       emergency·may_wait = λ κs a x y. same x y refl;

@@ -100,7 +100,6 @@ pub record Asked : Type 0 where
   pub states·is_initialising : AsksNothingOf states.is_initialising.ended (λ M 𝓤. states.is_initialising.clauses) (λ M 𝓤 𝓛 m f κs a. (tt, λ g. refl))
   pub states·is_operational : AsksNothingOf states.is_operational.ended (λ M 𝓤. states.is_operational.clauses) (λ M 𝓤 𝓛 m f κs a. (tt, λ g. refl))
   pub states·is_live : AsksNothingOf states.is_live.ended (λ M 𝓤. states.is_live.clauses) (λ M 𝓤 𝓛 m f κs a. (tt, λ g. refl))
-  pub states·same : AsksNothingOf states.same.ended (λ M 𝓤. states.same.clauses) (λ M 𝓤 𝓛 m f κs a. (tt, λ g. refl))
   pub counting·counted : AsksNothingOf counting.counted.ended (λ M 𝓤. counting.counted.clauses) (λ M 𝓤 𝓛 m f κs a. (tt, λ g. refl))
   pub counting·restarted : AsksNothingOf counting.restarted.ended (λ M 𝓤. counting.restarted.clauses) (λ M 𝓤 𝓛 m f κs a. (tt, λ g. refl))
   pub emergency·may_wait : AsksNothingOf emergency.may_wait.ended (λ M 𝓤. emergency.may_wait.clauses) (λ M 𝓤 𝓛 m f κs a. (tt, λ g. refl))

@@ -100,7 +100,6 @@ pub record Outcomes : Type 0 where
   pub states·is_initialising : OneOutcomeOf states.is_initialising.ended (λ M 𝓤. states.is_initialising.clauses) (λ M 𝓤 𝓛 m f κs a g r e. refl)
   pub states·is_operational : OneOutcomeOf states.is_operational.ended (λ M 𝓤. states.is_operational.clauses) (λ M 𝓤 𝓛 m f κs a g r e. refl)
   pub states·is_live : OneOutcomeOf states.is_live.ended (λ M 𝓤. states.is_live.clauses) (λ M 𝓤 𝓛 m f κs a g r e. refl)
-  pub states·same : OneOutcomeOf states.same.ended (λ M 𝓤. states.same.clauses) (λ M 𝓤 𝓛 m f κs a g r e. refl)
   pub counting·counted : OneOutcomeOf counting.counted.ended (λ M 𝓤. counting.counted.clauses) (λ M 𝓤 𝓛 m f κs a g r e. refl)
   pub counting·restarted : OneOutcomeOf counting.restarted.ended (λ M 𝓤. counting.restarted.clauses) (λ M 𝓤 𝓛 m f κs a g r e. refl)
   pub emergency·may_wait : OneOutcomeOf emergency.may_wait.ended (λ M 𝓤. emergency.may_wait.clauses) (λ M 𝓤 𝓛 m f κs a g r e. refl)

@@ -25,9 +25,3 @@ pub fn is_live(state: Nmt) -> bool
 {
     (state == Nmt::PRE_OPERATIONAL) | (state == Nmt::OPERATIONAL)
 }
-
-pub fn same(a: Nmt, b: Nmt) -> bool
-    ensures { result ≡ eqb a.code b.code }
-{
-    a == b
-}
