@@ -48,7 +48,7 @@ pub fn waits(line: Line, kind: u8) -> bool
     false
 }
 
-// Place by place: a loop that writes the place takes 1.5 ns more, and reads of 6200h and 1008h would miss their bar of speed.
+// Place by place: with a search for the place, `sync-scaled` and `read-6200` of the benchmark miss their bar of speed, which they meet so.
 pub fn join(line: Line, kind: u8) -> Line
     ensures { result ≡ join_in line kind }
 {
