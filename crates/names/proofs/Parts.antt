@@ -35,7 +35,7 @@ last_bit l k =
     (λ e. (λ _. omega (arith, leb-true (left_of l k) 7 e), λ _. refl))
     (λ e. (λ z. omega arith, λ h. omega (arith, leb-false (left_of l k) 7 e)))
 
-pub zeros : (n : ℕ) → pad n [] ≡ replicate n 0
+zeros : (n : ℕ) → pad n [] ≡ replicate n 0
 zeros zero = refl
 zeros (suc n) = ap {B = List ℕ} (λ r. 0 ∷ r) (zeros n)
 

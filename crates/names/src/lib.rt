@@ -1,9 +1,9 @@
 //! The names of a head, and the segments in which an SDO client reads one: CiA 301, "SDO upload segment".
 #![tactic(auto)]
 
-ghost use Rattle.std.specs.Prelude.{◌≡◌, ◌*◌, [], ◌∷◌, drop, length};
+ghost use Rattle.std.specs.Prelude.{◌≡◌, [], ◌∷◌, length};
 ghost use Rattle.names.specs.Name.{is_name, named as name_of, text, unknown as unknownName};
-ghost use Rattle.names.specs.Segment.{left_of, command_of, segment_of, toggle_of};
+ghost use Rattle.names.specs.Segment.{left_of, command_of, byte_at, segment_of, toggle_of};
 ghost use Rattle.names.specs.Laws.{Laws};
 ghost use Rattle.names.specs.Transfer.{runs as isRunning, number_of, starting, following, low_byte, naming};
 
@@ -57,12 +57,15 @@ pub fn unknown() -> Name
     short(b'?', 0, 0, 0, 1)
 }
 
-// A name of at most four bytes.
+// A name of at most four bytes. They are stored one by one, as those of a segment are.
 pub fn short(a: u8, b: u8, c: u8, d: u8, length: u8) -> Name
     ensures { result ≡ name_of (a ∷ b ∷ c ∷ d ∷ []) length }
 {
     let mut bytes = [0u8; 32];
-    bytes[..4].copy_from_slice(&[a, b, c, d]);
+    bytes[0] = a;
+    bytes[1] = b;
+    bytes[2] = c;
+    bytes[3] = d;
     Name { bytes, length }
 }
 
@@ -117,16 +120,21 @@ fn low_byte(name: u8) -> u8
     }
 }
 
-// The reply to the segment request that is due.
+// The reply to the segment request that is due. Byte by byte: the kit compiles `copy_from_slice` for processors of 64 bits only, and heads run on others.
 pub fn segment(name: Name, segments: u8) -> Bytes
     ensures { result ≡ segment_of name segments }
 {
-    let rest = rest(&name, segments);
-    let carried = rest.len().min(SEGMENT);
-    let mut reply = [0u8; 8];
-    reply[0] = command(name.length, segments);
-    reply[1..=carried].copy_from_slice(&rest[..carried]);
-    reply
+    let at = segments as usize * SEGMENT;
+    [
+        command(name.length, segments),
+        byte_at(name, at),
+        byte_at(name, at + 1),
+        byte_at(name, at + 2),
+        byte_at(name, at + 3),
+        byte_at(name, at + 4),
+        byte_at(name, at + 5),
+        byte_at(name, at + 6),
+    ]
 }
 
 // The transfer after that reply: the last segment ends it.
@@ -161,12 +169,11 @@ fn command(length: u8, segments: u8) -> u8
     toggle
 }
 
-// The bytes of the name that these segments left.
-fn rest(name: &Name, segments: u8) -> &[u8]
-    ensures { result.now ≡ drop (7 * segments) (text name.now) }
+// 0 past the end of the name.
+fn byte_at(name: Name, place: usize) -> u8
+    ensures { result ≡ byte_at name place }
 {
-    let sent = segments as usize * SEGMENT;
-    text(name).get(sent..).unwrap_or(&[])
+    text(&name).get(place).copied().unwrap_or(0)
 }
 
 // The bytes of the name.

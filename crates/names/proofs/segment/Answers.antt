@@ -1,16 +1,17 @@
--- `segment` meets its contract: what is left of the name is copied over zeros.
-use Prim.Native.Nat.{ℕ, ◌+◌, ◌-◌}
-use native.Mathlib.Omega.{arith}
-use mathlib.Core.Path.{◌≡◌, ap}
-use mathlib.Core.List.{List, ◌∷◌}
-use Rattle.names.specs.Segment.{command_of}
-use Rattle.names.proofs.Segments.{copied}
+-- `segment` meets its contract, by its eight bytes.
+use native.Mathlib.Nat.{mul_comm}
+use Rattle.names.proofs.Segments.{segment_of_law}
 use Rattle.names.proofs.segment.Goals as goal
 
 pub returns : goal.returns
-unfolding Rattle.names.specs.Segment.segment_of
 returns c =
-    let m = c.min-carried.result in
-    let e : m + 1 - 1 ≡ m = omega arith in
-    rw (c.copy_from_slice.ensures.after, c.command.ensures, ← c.rest-rest.ensures, e)
-    (ap {B = List ℕ} (λ r. command_of c.args.name.length c.args.segments ∷ r) (copied 7 _ m c.min-carried.ensures))
+    rw (
+      c.byte_at-7.ensures,
+      c.byte_at-6.ensures,
+      c.byte_at-5.ensures,
+      c.byte_at-4.ensures,
+      c.byte_at-3.ensures,
+      c.byte_at-2.ensures,
+      c.byte_at.ensures,
+    )
+    (segment_of_law _ _ _ _ c.command.ensures (mul_comm _ 7))
