@@ -3,6 +3,7 @@ ghost use Rattle.std.specs.Prelude.{◌≡◌, ◌≤◌};
 ghost use Rattle.position.specs.Profile.{ValidProfile};
 ghost use Rattle.waiting.specs.Line.{places};
 ghost use Rattle.waiting.specs.Places.{waiting as waitingIn, taken_in, Holds};
+ghost use Rattle.promises.specs.Calls.{no_frame};
 ghost use Rattle.steps.specs.Slot.{slotted_of, slot_way, slot_frame, booted_of, announced_of};
 
 use acceptance::is_on;
@@ -22,15 +23,13 @@ pub struct Outgoing {
 impl Outgoing {
     pub const NONE: Outgoing = Outgoing {
         waited: false,
-        frame: NO_FRAME,
+        frame: Frame {
+            identifier: 0,
+            length: 0,
+            bytes: [0, 0, 0, 0, 0, 0, 0, 0],
+        },
     };
 }
-
-const NO_FRAME: Frame = Frame {
-    identifier: 0,
-    length: 0,
-    bytes: [0, 0, 0, 0, 0, 0, 0, 0],
-};
 
 // The ways of a slot: it sends the boot-up frame, the emergency, or another kind.
 #[derive(Clone, Copy)]
@@ -103,7 +102,18 @@ fn frame(
         HEARTBEAT => heartbeat::frame(node, state),
         TPDO1 => tpdo::frame(pdo1, profile, reading.raw, fixed.pdo1),
         TPDO2 => tpdo::frame(pdo2, profile, reading.raw, fixed.pdo2),
-        _ => NO_FRAME,
+        _ => none(),
+    }
+}
+
+// A function and no constant: of a constant the frame is put together byte by byte, and a slot with a reply takes 98 instructions in place of 57.
+fn none() -> Frame
+    ensures { result ≡ no_frame }
+{
+    Frame {
+        identifier: 0,
+        length: 0,
+        bytes: [0, 0, 0, 0, 0, 0, 0, 0],
     }
 }
 
