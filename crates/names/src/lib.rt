@@ -169,11 +169,12 @@ fn command(length: u8, segments: u8) -> u8
     toggle
 }
 
-// 0 past the end of the name.
+// 0 past the end of the name. By index: `get` gives an Option of a reference, which the kit lays out for pointers of 64 bits only.
 fn byte_at(name: Name, place: usize) -> u8
     ensures { result ≡ byte_at name place }
 {
-    text(&name).get(place).copied().unwrap_or(0)
+    let text = text(&name);
+    if place < text.len() { text[place] } else { 0 }
 }
 
 // The bytes of the name.

@@ -78,11 +78,13 @@ fn takes(place: u8, kind: u8) -> bool
     (place == EMPTY) | (place == kind)
 }
 
+// From the last place on, over the kinds and not over references, of which the kit lays an Option out for pointers of 64 bits only.
 pub fn withdraw(line: Line, kind: u8) -> Line
     ensures { result ≡ withdraw_in line kind }
 {
+    let [one, two, three, four, five] = line;
     let mut left = none();
-    for &place in line.iter().rev() {
+    for place in [five, four, three, two, one] {
         if place != kind {
             left = [place, left[0], left[1], left[2], left[3]];
         }
