@@ -3,7 +3,8 @@
 #![tactic(auto)]
 
 ghost use Rattle.std.specs.Prelude.{◌≡◌};
-ghost use Rattle.promises.specs.Calls.{receive as receives, sample as samples, answer_in};
+ghost use Rattle.promises.specs.Calls.{receive as receives, sample as samples};
+ghost use Rattle.promises.specs.ByValue.{answer_in};
 ghost use Rattle.promises.specs.Valid.{Valid};
 ghost use Rattle.parts.specs.declared.Sensor.TheVariants.{Raw as raw};
 ghost use Rattle.transcript.specs.Commands.{frame_in, ticks, told as tells, shown as shows, refused, silent, called, obeyed};

@@ -8,7 +8,8 @@ ghost use Rattle.promises.specs.States.{started as startedHead};
 ghost use Rattle.parts.specs.declared.Sensor.TheVariants.{Missing, Raw};
 ghost use Rattle.can.specs.Frame.{number_in};
 ghost use Rattle.dictionary.specs.Valid.{FitsIdentity};
-ghost use Rattle.promises.specs.Calls.{answered, answer_in, no_identity, powered_up};
+ghost use Rattle.promises.specs.Calls.{answered, no_identity, powered_up};
+ghost use Rattle.promises.specs.ByValue.{answer_in};
 ghost use Rattle.promises.specs.Valid.{Valid};
 ghost use Rattle.promises.specs.Promised.{PowersUp, Receives, Ticks, Samples, Slots};
 

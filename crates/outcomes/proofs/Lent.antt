@@ -7,7 +7,7 @@ use Rattle.promises.specs.Histories.{Reachable}
 use Rattle.promises.proofs.Demand1.{demand1}
 use Rattle.outcomes.specs.Lent.{Left, Lent}
 
-left : (c : Call) (h h' : Head) → Reachable h → h' ≡ step h c → Left h c h'
+pub left : (c : Call) (h h' : Head) → Reachable h → h' ≡ step h c → Left h c h'
 left c h h' r e = record { is_step = e; reachable = subst Reachable (sym e) (demand1.goes_on h c r) }
 
 pub lent : Lent

@@ -11,7 +11,8 @@ use Rattle.dictionary.proofs.AbortCodes.{one_answer}
 use Rattle.parts.specs.declared.Head.{Head}
 use Rattle.parts.specs.declared.Sent.{Sent}
 use Rattle.parts.specs.declared.Answer.{Answer}
-use Rattle.promises.specs.Calls.{SlotAnswer, answered, sent_with, given, answer_in}
+use Rattle.promises.specs.Calls.{SlotAnswer, answered}
+use Rattle.promises.specs.ByValue.{is_given, frame_given, answer_in}
 use Rattle.steps.specs.declared.slot.Outgoing.{Outgoing}
 use Rattle.lent.specs.Steps.{sent_as}
 use Rattle.outcomes.specs.Outcomes.{Outcomes, LentOutcomes}
@@ -38,7 +39,8 @@ left_alike x y k l p q = λ i. (k i, ((p ∙ sym q) i, l i))
 slot_with : SlotAnswer → Sent
 slot_with s = record { frame = cond s.waited (Some s.frame) None; head = s.head }
 
-slot_told : (f : Option Frame) (h : Head) → record { frame = f; head = h } ≡ slot_with (sent_with (given f) h)
+slot_told : (f : Option Frame) (h : Head)
+    → record { frame = f; head = h } ≡ slot_with (record { waited = is_given f; frame = frame_given f; head = h })
 unfolding slot_with
 slot_told None h = refl
 slot_told (Some f) h = refl

@@ -1,7 +1,6 @@
 -- The calls, what each means to a head in its state, and what it answers: 01, chapters "The head and its neighbours"
 -- and "Refusal numbers", with the conditions of "States", "The waiting line" (SYNC) and "Service requests".
 use Rattle.std.specs.Prelude.{ℕ, ◌+◌, eqb, leb, ltb, Bool, true, false, not, ◌&&◌, ◌||◌, cond, [], ◌∷◌, map}
-use Rattle.std.specs.Prelude.{Option as Given, None, Some}
 use Rattle.std.proofs.Math.Option.{Option, none, some}
 use Rattle.cases.specs.Cases.{first_of}
 use Rattle.cases.specs.Tests.{within}
@@ -23,7 +22,6 @@ use Rattle.waiting.specs.Line.{has, first}
 use Rattle.parts.specs.declared.Core.{Core}
 use Rattle.parts.specs.declared.Head.{Head}
 use Rattle.parts.specs.declared.Answer.{Answer}
-use Rattle.parts.specs.declared.Sent.{Sent}
 use Rattle.parts.specs.declared.Sensor.{Sensor}
 use Rattle.parts.specs.declared.Sensor.TheVariants.{Missing, Raw}
 use Rattle.parts.specs.Put.{with_transfer}
@@ -196,11 +194,3 @@ pub record SlotAnswer : Type 0 where
 
 abbrev pub sent_with : Option Frame → Head → SlotAnswer
 sent_with f h = record { waited = is_frame f; frame = frame_in f; head = h }
-
--- the same from what the code answers by value
-abbrev pub given : Given Frame → Option Frame
-given None = none
-given (Some f) = some f
-
-abbrev pub answer_in : Sent → SlotAnswer
-answer_in s = sent_with (given s.frame) s.head

@@ -3,6 +3,7 @@ pub mod Timers
 pub mod WaitingLine
 pub mod Acts
 pub mod Calls
+pub mod ByValue
 pub mod Valid
 pub mod Promised
 pub mod Meant
