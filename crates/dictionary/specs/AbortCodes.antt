@@ -40,12 +40,12 @@ absence NoSubIndex = NoSuchSubIndex
 
 -- value: 0609 0030h;
 abbrev pub invalid_value : ℕ
-invalid_value = 0x06090030
+invalid_value = code_of InvalidValue
 
 -- for 1010-1, 1011-1 a wrong signature 0800 0020h
 abbrev pub wrong_signature : ℕ
-wrong_signature = 0x08000020
+wrong_signature = code_of WrongSignature
 
 -- 0800 0022h: 6002h or 6005h with scaling off, 6003h while missing, a PDO that is on
 abbrev pub device_state : ℕ
-device_state = 0x08000022
+device_state = code_of DeviceState
